@@ -1,0 +1,69 @@
+-- Tables, and a buffer that a loop fills from the front: its first i elements are the table's, the rest are as they were.
+-- Every loop that writes has this invariant; a turn that stores several elements cites `stores-filled`. Assumes nothing.
+use mathlib.Core.Path.{_≡_, refl, sym, ap, _∙_}
+use mathlib.Core.List.{List, [], _∷_, _++_, append-assoc}
+use Prim.Native.Nat.{ℕ, zero, suc, _+_, _-_, _<_, _≤_}
+use native.Mathlib.Nat.{add-zero}
+use native.Mathlib.Numerals.{add-one}
+use native.Mathlib.Decide.{decLt}
+use native.Mathlib.Omega.{arith}
+use lib.ListN.{length, getD, drop, set, length-append, length-drop, length-set, List·getD-append}
+use lib.Seq.{drop-cons, set-at, getD-at, getD-append-add, getD-drop, ext-getD}
+use Rattle.answer.specs.Table.{table, filled}
+
+pub length-table : (n : ℕ) (f : ℕ → ℕ) → length (table n f) ≡ n
+length-table zero f = refl
+length-table (suc n) f = length-append (table n f) (f n ∷ []) ∙ ap (λ (k : ℕ). k + 1) (length-table n f) ∙ add-one n
+
+-- a table's element k is f at k
+pub table-at : (n : ℕ) (f : ℕ → ℕ) (k : ℕ) → k < n → getD (table n f) k 0 ≡ f k
+table-at zero f k h = absurd (omega arith)
+table-at (suc n) f k h = by (decLt k n) (table-at n f k)
+  where
+    by : Dec (k < n) → (k < n → getD (table n f) k 0 ≡ f k) → getD (table n f ++ (f n ∷ [])) k 0 ≡ f k
+    by (yes l) below = List·getD-append (table n f) (f n ∷ []) 0 k (rw length-table l) ∙ below l
+    by (no g) below = let last : k ≡ n = omega arith in rw last (getD-at (table n f) (f n) [] 0 n (length-table n f))
+
+-- two tables of one length are the same where their functions agree below it
+pub table-same : (n : ℕ) (f g : ℕ → ℕ) → ((k : ℕ) → k < n → f k ≡ g k) → table n f ≡ table n g
+table-same zero f g e = refl
+table-same (suc n) f g e = rw (table-same n f g (λ k h. e k (omega arith)), e n (omega arith))
+
+-- a list is the table of its elements
+pub table-self : (l : List ℕ) → table (length l) (λ k. getD l k 0) ≡ l
+table-self l = ext-getD 0 (table (length l) (λ k. getD l k 0)) l (length-table (length l) (λ k. getD l k 0)) (λ i h. table-at (length l) (λ k. getD l k 0) i (rw length-table at h))
+
+pub filled-none : (f : ℕ → ℕ) (old : List ℕ) → filled 0 f old ≡ old
+filled-none f old = refl
+
+pub length-filled : (i : ℕ) (f : ℕ → ℕ) (old : List ℕ) → i ≤ length old → length (filled i f old) ≡ length old
+length-filled i f old h = simp (length-append, length-table, length-drop) (omega arith)
+
+pub filled-more : (i : ℕ) (f : ℕ → ℕ) (old : List ℕ) → i < length old → set (filled i f old) i (f i) ≡ filled (i + 1) f old
+filled-more i f old h = rw (add-one, drop-cons old i 0) (set-at (table i f) _ (drop (suc i) old) (f i) i (length-table i f) ∙ sym (append-assoc (table i f) (f i ∷ []) (drop (suc i) old)))
+
+-- n stores from a place on: g p at place + p
+abbrev pub stores : List ℕ → ℕ → ℕ → (ℕ → ℕ) → List ℕ
+stores out at zero g = out
+stores out at (suc n) g = set (stores out at n g) (at + n) (g n)
+
+pub length-stores : (out : List ℕ) (at n : ℕ) (g : ℕ → ℕ) → length (stores out at n g) ≡ length out
+length-stores out at zero g = refl
+length-stores out at (suc n) g = length-set (stores out at n g) (at + n) (g n) ∙ length-stores out at n g
+
+-- a turn that stores n elements, each what f has there, fills n more
+pub stores-filled : (f g : ℕ → ℕ) (old out : List ℕ) (at n : ℕ) → ((p : ℕ) → p < n → g p ≡ f (at + p)) → at + n ≤ length old → out ≡ filled at f old → stores out at n g ≡ filled (at + n) f old
+stores-filled f g old out at zero e room s = rw (add-zero at) s
+stores-filled f g old out at (suc n) e room s =
+    let more : at + suc n ≡ at + n + 1 = omega arith in
+    rw (stores-filled f g old out at n (λ p h. e p (omega arith)) (omega arith) s, e n (omega arith), more) (filled-more (at + n) f old (omega arith))
+
+-- what is not filled yet is as it was
+pub filled-rest : (i : ℕ) (f : ℕ → ℕ) (old : List ℕ) (k : ℕ) → i ≤ k → getD (filled i f old) k 0 ≡ getD old k 0
+filled-rest i f old k h =
+    let past : k ≡ length (table i f) + (k - i) = omega (arith, length-table i f) in
+    ap (λ (n : ℕ). getD (filled i f old) n 0) past ∙ getD-append-add (table i f) (drop i old) (k - i) 0 ∙ getD-drop i old (k - i) 0 ∙ ap (λ (n : ℕ). getD old n 0) (omega arith)
+
+-- a buffer filled to the table's end is what a promise leaves
+pub whole : (n : ℕ) (f : ℕ → ℕ) (old : List ℕ) → filled n f old ≡ table n f ++ drop (length (table n f)) old
+whole n f old = ap (λ (k : ℕ). table n f ++ drop k old) (sym (length-table n f))

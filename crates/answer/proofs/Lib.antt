@@ -1,0 +1,3 @@
+pub mod Promised
+pub mod Filling
+pub mod Determined

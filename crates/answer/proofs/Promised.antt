@@ -1,0 +1,139 @@
+-- What every promise gives: one answer and one content of the buffer, which a refusal leaves as it was and success changes at its front alone;
+-- and of a list of faults: the refusal given is that of the first fault, and is given only then. Assumes nothing.
+use Prim.{Unit}
+use Prim.Native.Nat.{ℕ, zero, suc, _+_, _-_, _≤_}
+use mathlib.Core.Path.{_≡_, refl, sym, ap, _∙_}
+use mathlib.Core.Bool.{Bool, true, false}
+use mathlib.Core.List.{List, [], _∷_, _++_}
+use mathlib.Core.Logic.{_⊎_, inl, inr}
+use native.Mathlib.Omega.{arith}
+use lib.ListN.{length, take, drop, length-append, length-drop}
+use lib.Seq.{take-append-seam, drop-append-seam}
+use Rattle.answer.specs.declared.Refusal.{Refusal}
+use Rattle.answer.specs.declared.Refusal.the-variants.{Unsupported, Invalid, Truncated, OutputTooSmall, Limit}
+use Rattle.answer.specs.declared.Done.{Done}
+use Rattle.answer.specs.declared.Done.the-variants as Done-is
+use Rattle.answer.specs.Table.{table, filled}
+use Rattle.answer.proofs.Filling.{whole}
+use Rattle.answer.specs.Outcome.{Outcome, done, refused, Fault, pick, unless, Promise, after, number, doneOutcome, First, here, later, Sound, none, next}
+
+-- two outcomes that one promise allows are the same
+pub determined : {A : Type 0} {o : Outcome A} {w old : List ℕ} (a b : Outcome A) (x y : List ℕ) → Promise o w old a x → Promise o w old b y → (a ≡ b) × (x ≡ y)
+determined a b x y p q = (p .answers ∙ sym (q .answers), p .leaves ∙ sym (q .leaves))
+
+-- what stands in the buffer goes by the answer
+by-answer : {A : Type 0} {o : Outcome A} {w old : List ℕ} (a : Outcome A) (new : List ℕ) → Promise o w old a new → new ≡ after a w old
+by-answer {A} {o} {w} {old} a new p = p .leaves ∙ ap (λ (x : Outcome A). after x w old) (sym (p .answers))
+
+-- a refusal writes no byte
+pub keeps : {A : Type 0} {o : Outcome A} {w old : List ℕ} (n : ℕ) (new : List ℕ) → Promise o w old (refused n) new → new ≡ old
+keeps n new p = by-answer (refused n) new p
+
+-- success writes the work at the buffer's front
+pub writes : {A : Type 0} {o : Outcome A} {w old : List ℕ} (a : A) (new : List ℕ) → Promise o w old (done a) new → take (length w) new ≡ w
+writes {A} {o} {w} {old} a new p = rw (by-answer (done a) new p) (take-append-seam w (drop (length w) old))
+
+-- and leaves what is past the work as it was
+pub spares : {A : Type 0} {o : Outcome A} {w old : List ℕ} (a : A) (new : List ℕ) → Promise o w old (done a) new → drop (length w) new ≡ drop (length w) old
+spares {A} {o} {w} {old} a new p = rw (by-answer (done a) new p) (drop-append-seam w (drop (length w) old))
+
+-- with room for the work, the buffer keeps its length
+pub stays : {A : Type 0} {o : Outcome A} {w old : List ℕ} (a : Outcome A) (new : List ℕ) → length w ≤ length old → Promise o w old a new → length new ≡ length old
+stays {A} {o} {w} {old} a new room p = ap length (by-answer a new p) ∙ whichever a
+  where
+    whichever : (b : Outcome A) → length (after b w old) ≡ length old
+    whichever (done x) = simp (length-append, length-drop) (omega arith)
+    whichever (refused n) = refl
+
+-- the first fault's refusal is given
+pub first-refused : {A : Type 0} {fs : List Fault} {n : ℕ} (a : A) → First fs n → unless fs a ≡ refused n
+first-refused a (here t) = rw t
+first-refused a (later t r) = rw t (first-refused a r)
+
+-- and with no fault the work is done
+pub sound-done : {A : Type 0} {fs : List Fault} (a : A) → Sound fs → unless fs a ≡ done a
+sound-done a none = refl
+sound-done a (next t r) = rw t (sound-done a r)
+
+-- one or the other holds of any list
+either : (fs : List Fault) → Sound fs ⊎ ((n : ℕ) × First fs n)
+either [] = inl none
+either (f ∷ fs) = by (f .found) refl (either fs)
+  where
+    by : (b : Bool) → f .found ≡ b → Sound fs ⊎ ((n : ℕ) × First fs n) → Sound (f ∷ fs) ⊎ ((n : ℕ) × First (f ∷ fs) n)
+    by true t r = inr (f .kind, here t)
+    by false t (inl s) = inl (next t s)
+    by false t (inr w) = inr (w .0, later t (w .1))
+
+-- so a refusal is given only for the first fault, and the work done only where there is none
+pub refused-first : {A : Type 0} (fs : List Fault) (a : A) (n : ℕ) → unless fs a ≡ refused n → First fs n
+refused-first fs a n e = by (either fs)
+  where
+    by : Sound fs ⊎ ((m : ℕ) × First fs m) → First fs n
+    by (inl s) = let d = sound-done a s in absurd (let z : _≡_ {A = ℕ} 0 1 = cc in omega arith)
+    by (inr w) = let d = first-refused a (w .1) in let same : w .0 ≡ n = cc in rw same at (w .1)
+
+pub done-sound : {A : Type 0} (fs : List Fault) (a b : A) → unless fs a ≡ done b → Sound fs
+done-sound fs a b e = by (either fs)
+  where
+    by : Sound fs ⊎ ((m : ℕ) × First fs m) → Sound fs
+    by (inl s) = s
+    by (inr w) = let d = first-refused a (w .1) in absurd (let z : _≡_ {A = ℕ} 0 1 = cc in omega arith)
+
+pub done-value : {A : Type 0} (fs : List Fault) (a b : A) → unless fs a ≡ done b → a ≡ b
+done-value fs a b e = let d = sound-done a (done-sound fs a b e) in cc
+
+-- a refusal does not turn on what the work would have been
+pub refused-same : {A B : Type 0} (fs : List Fault) (a : A) (b : B) (n : ℕ) → unless fs a ≡ refused n → unless fs b ≡ refused n
+refused-same fs a b n e = first-refused b (refused-first fs a n e)
+
+-- how a promise is met: by the first fault's refusal and an untouched buffer, or, with no fault, by a buffer filled with the work
+pub refuses : {A : Type 0} (fs : List Fault) (a : A) (w old : List ℕ) {n : ℕ} → First fs n → Promise (unless fs a) w old (refused n) old
+refuses {A} fs a w old r =
+    record { answers = sym (first-refused a r); leaves = sym (ap (λ (o : Outcome A). after o w old) (first-refused a r)) }
+
+pub finishes : {A : Type 0} (fs : List Fault) (a : A) (n : ℕ) (f : ℕ → ℕ) (old new : List ℕ) → Sound fs → new ≡ filled n f old → Promise (unless fs a) (table n f) old (done a) new
+finishes {A} fs a n f old new s e =
+    record { answers = sym (sound-done a s); leaves = e ∙ whole n f old ∙ sym (ap (λ (o : Outcome A). after o (table n f) old) (sound-done a s)) }
+
+pub sound-here : {f : Fault} {fs : List Fault} → Sound (f ∷ fs) → f .found ≡ false
+sound-here (next t r) = t
+
+pub sound-rest : {f : Fault} {fs : List Fault} → Sound (f ∷ fs) → Sound fs
+sound-rest (next t r) = r
+
+-- an answer is told by its number and values: each definition of them has a way back
+abbrev pub kind : ℕ → Refusal
+kind zero = Limit
+kind (suc zero) = Unsupported
+kind (suc (suc zero)) = Invalid
+kind (suc (suc (suc zero))) = Truncated
+kind (suc (suc (suc (suc zero)))) = OutputTooSmall
+kind (suc (suc (suc (suc (suc n))))) = Limit
+
+pub kind-number : (k : Refusal) → kind (number k) ≡ k
+kind-number Unsupported = refl
+kind-number Invalid = refl
+kind-number Truncated = refl
+kind-number OutputTooSmall = refl
+kind-number Limit = refl
+
+abbrev back : Outcome (Unit {0}) → Done
+back (done x) = Done-is.Done
+back (refused n) = Done-is.Refused (kind n)
+
+back-done : (a : Done) → back (doneOutcome a) ≡ a
+back-done Done-is.Done = refl
+back-done (Done-is.Refused k) = ap Done-is.Refused (kind-number k)
+
+-- so answers of one outcome are one answer
+pub once : {R O : Type 0} (to : R → O) (from : O → R) → ((r : R) → from (to r) ≡ r) → (a b : R) → to a ≡ to b → a ≡ b
+once to from same a b e = sym (same a) ∙ ap from e ∙ same b
+
+pub done-once : (a b : Done) → doneOutcome a ≡ doneOutcome b → a ≡ b
+done-once = once doneOutcome back back-done
+
+-- one promise of a call that answers `Done` allows one answer and one content of the buffer
+pub done-determined : {o : Outcome (Unit {0})} {w old : List ℕ} (a b : Done) (x y : List ℕ) → Promise o w old (doneOutcome a) x → Promise o w old (doneOutcome b) y → (a ≡ b) × (x ≡ y)
+done-determined a b x y p q =
+    let one = determined (doneOutcome a) (doneOutcome b) x y p q in (done-once a b (one .0), one .1)

@@ -1,0 +1,12 @@
+-- The list of f at 0, 1, .. below n; and a buffer whose first n elements are that list and whose rest is as it was.
+-- A promise says with `table` what is written, a loop's contract with `filled` how far. Assumes nothing.
+use Prim.Native.Nat.{ℕ, zero, suc}
+use mathlib.Core.List.{List, [], _∷_, _++_}
+use lib.ListN.{drop}
+
+abbrev pub table : {A : Type 0} → ℕ → (ℕ → A) → List A
+table zero f = []
+table (suc n) f = table n f ++ (f n ∷ [])
+
+abbrev pub filled : ℕ → (ℕ → ℕ) → List ℕ → List ℕ
+filled n f old = table n f ++ drop n old

@@ -1,0 +1,90 @@
+mod swap;
+
+use answer::Done;
+use answer::Refusal;
+ghost use mathlib.Core.Path.{_≡_};
+ghost use Prim.Native.Nat.{_≤_};
+ghost use lib.ListN.{length};
+ghost use Rattle.transport.specs.Moved.{Committed, CopiedInto, reversed, Turned, Swapped, SwapFits, SwappedInto};
+
+fn copy(source: &[u8], out: &mut [u8])
+    requires { ⌜ length (now source) ≤ length (now out) ⌝ }
+    ensures { λ r. ⌜ CopiedInto (now (source .entry)) (now (out .entry)) (now (out .exit)) ⌝ }
+{
+    let mut i: usize = 0;
+    while i < source.len() {
+        out[i] = source[i];
+        i += 1;
+    }
+}
+
+// A copy of the source at the front of the output.
+pub fn commit_uninit(source: &[u8], out: &mut [u8]) -> Done
+    ensures { λ r. ⌜ Committed (now (source .entry)) (now (out .entry)) r (now (out .exit)) ⌝ }
+{
+    if out.len() < source.len() {
+        return Done::Refused(Refusal::OutputTooSmall);
+    }
+    copy(source, out);
+    Done::Done
+}
+
+fn reversed_byte(b: u8) -> u8
+    ensures { λ r. ⌜ r ≡ reversed b ⌝ }
+{
+    b / 128 % 2
+        + 2 * (b / 64 % 2)
+        + 4 * (b / 32 % 2)
+        + 8 * (b / 16 % 2)
+        + 16 * (b / 8 % 2)
+        + 32 * (b / 4 % 2)
+        + 64 * (b / 2 % 2)
+        + 128 * (b % 2)
+}
+
+// Every byte with its bits in the other order, in place.
+pub fn reverse_bits(s: &mut [u8])
+    ensures { λ r. ⌜ Turned (now (s .entry)) (now (s .exit)) ⌝ }
+{
+    let mut i: usize = 0;
+    while i < s.len() {
+        s[i] = reversed_byte(s[i]);
+        i += 1;
+    }
+}
+
+fn swap_groups(raw: &[u8], width: usize, out: &mut [u8])
+    requires { ⌜ (width ≤ 8) × SwapFits (now raw) width (now out) ⌝ }
+    ensures { λ r. ⌜ SwappedInto (now (raw .entry)) width (now (out .entry)) (now (out .exit)) ⌝ }
+{
+    match width {
+        1 => copy(raw, out),
+        2 => swap::swap2(raw, out),
+        3 => swap::swap3(raw, out),
+        4 => swap::swap4(raw, out),
+        5 => swap::swap5(raw, out),
+        6 => swap::swap6(raw, out),
+        7 => swap::swap7(raw, out),
+        _ => swap::swap8(raw, out),
+    }
+}
+
+// Each group of `width` bytes, written backwards.
+pub fn swap_components(raw: &[u8], width: usize, out: &mut [u8]) -> Done
+    ensures { λ r. ⌜ Swapped (now (raw .entry)) width (now (out .entry)) r (now (out .exit)) ⌝ }
+{
+    if width == 0 {
+        return Done::Refused(Refusal::Unsupported);
+    }
+    if 8 < width {
+        return Done::Refused(Refusal::Unsupported);
+    }
+    if raw.len() % width != 0 {
+        return Done::Refused(Refusal::Invalid);
+    }
+    if out.len() < raw.len() {
+        return Done::Refused(Refusal::OutputTooSmall);
+    }
+    swap_groups(raw, width, out);
+    Done::Done
+}

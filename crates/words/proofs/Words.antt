@@ -1,0 +1,68 @@
+-- The laws of words, over the width: what a word's digits are and what word a number's digits make, in either byte order;
+-- that adding and taking away modulo 256^width undo each other. Assumes nothing.
+use mathlib.Core.Path.{_≡_, refl, sym, ap, _∙_}
+use mathlib.Core.Bool.{Bool, true, false}
+use mathlib.Core.List.{List}
+use Prim.Native.Nat.{ℕ, zero, suc, _+_, _-_, _*_, _/_, _%_, _^_, _≤_, _<_}
+use native.Mathlib.Nat.{add-zero, one-le-pow, mod-lt, mod-eq-of-lt, mod-add-mod, add-mod-right}
+use native.Mathlib.Omega.{arith}
+use lib.ListN.{getD}
+use Rattle.words.specs.Digits.{digit, value}
+use Rattle.words.specs.Word.{turn, Bytes, wordAt, modulus, plus, minus}
+use Rattle.words.proofs.Digits.{value-same, value-below, digit-value, value-digit}
+
+pub turn-below : (le : Bool) (width p : ℕ) → p < width → turn le width p < width
+turn-below true width p h = h
+turn-below false width p h = omega arith
+
+-- turning twice is nothing
+pub turn-turn : (le : Bool) (width p : ℕ) → p < width → turn le width (turn le width p) ≡ p
+turn-turn true width p h = refl
+turn-turn false width p h = omega arith
+
+pub modulus-pos : (width : ℕ) → 0 < modulus width
+modulus-pos width = one-le-pow width 256 (omega arith)
+
+-- a word is below 256^width
+pub word-below : (s : List ℕ) (at width : ℕ) (le : Bool) → Bytes s → wordAt s at width le < modulus width
+word-below s at width le b = value-below 256 width (λ p. getD s (at + turn le width p) 0) (λ p h. b (at + turn le width p))
+
+-- a word of one byte is that byte
+pub word-one : (s : List ℕ) (at : ℕ) (le : Bool) → wordAt s at 1 le ≡ getD s at 0
+word-one s at true = rw (add-zero at) (omega arith)
+word-one s at false = rw (add-zero at) (omega arith)
+
+-- a word's digits are its bytes
+pub word-digit : (s : List ℕ) (at width : ℕ) (le : Bool) → Bytes s → (p : ℕ) → p < width → digit 256 (turn le width p) (wordAt s at width le) ≡ getD s (at + p) 0
+word-digit s at width le b p h =
+    digit-value 256 width (λ q. getD s (at + turn le width q) 0) (λ q l. b (at + turn le width q)) (turn le width p) (turn-below le width p h)
+    ∙ ap (λ (q : ℕ). getD s (at + q) 0) (turn-turn le width p h)
+
+-- bytes that are v's digits make the word v modulo 256^width
+pub digits-word : (s : List ℕ) (at width : ℕ) (le : Bool) (v : ℕ) → ((p : ℕ) → p < width → getD s (at + p) 0 ≡ digit 256 (turn le width p) v) → wordAt s at width le ≡ v % modulus width
+digits-word s at width le v e =
+    value-same 256 width _ _ (λ p h. e (turn le width p) (turn-below le width p h) ∙ ap (λ (q : ℕ). digit 256 q v) (turn-turn le width p h))
+    ∙ value-digit 256 width v (omega arith)
+
+-- bytes that agree make one word
+pub word-same : (s t : List ℕ) (i j width : ℕ) (le : Bool) → ((p : ℕ) → p < width → getD s (i + p) 0 ≡ getD t (j + p) 0) → wordAt s i width le ≡ wordAt t j width le
+word-same s t i j width le e = value-same 256 width _ _ (λ p h. e (turn le width p) (turn-below le width p h))
+
+pub plus-below : (width a b : ℕ) → plus width a b < modulus width
+plus-below width a b = mod-lt (a + b) (modulus-pos width)
+
+pub minus-below : (width a b : ℕ) → minus width a b < modulus width
+minus-below width a b = mod-lt (a + (modulus width - b)) (modulus-pos width)
+
+-- taking away what was added, and adding what was taken away
+pub plus-minus : (width a b : ℕ) → a < modulus width → b < modulus width → minus width (plus width a b) b ≡ a
+plus-minus width a b ha hb =
+    let m = modulus width in
+    let round : a + b + (m - b) ≡ a + m = omega arith in
+    mod-add-mod (a + b) m (m - b) ∙ ap (λ (x : ℕ). x % m) round ∙ add-mod-right a m ∙ mod-eq-of-lt ha
+
+pub minus-plus : (width a b : ℕ) → a < modulus width → b < modulus width → plus width (minus width a b) b ≡ a
+minus-plus width a b ha hb =
+    let m = modulus width in
+    let round : a + (m - b) + b ≡ a + m = omega arith in
+    mod-add-mod (a + (m - b)) m b ∙ ap (λ (x : ℕ). x % m) round ∙ add-mod-right a m ∙ mod-eq-of-lt ha

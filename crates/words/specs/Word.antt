@@ -1,0 +1,30 @@
+-- TIFF 6.0's words: the first byte is the least significant when `le`, the most significant otherwise. One definition for any width.
+-- And sums and differences of words, modulo 256^width. Assumes nothing.
+use Prim.Native.Nat.{ℕ, _+_, _-_, _%_, _^_, _<_}
+use mathlib.Core.Bool.{Bool, true, false}
+use mathlib.Core.List.{List}
+use lib.ListN.{getD}
+use Rattle.words.specs.Digits.{value}
+
+-- where, among a word's bytes, its digit p stands; and which digit byte p is
+abbrev pub turn : Bool → ℕ → ℕ → ℕ
+turn true width p = p
+turn false width p = width - 1 - p
+
+-- a list of bytes
+abbrev pub Bytes : List ℕ → Type 0
+Bytes s = (i : ℕ) → getD s i 0 < 256
+
+-- the word of the `width` bytes at a place
+abbrev pub wordAt : List ℕ → ℕ → ℕ → Bool → ℕ
+wordAt s at width le = value 256 width (λ p. getD s (at + turn le width p) 0)
+
+abbrev pub modulus : ℕ → ℕ
+modulus width = 256 ^ width
+
+-- a word and another, added and taken away
+abbrev pub plus : ℕ → ℕ → ℕ → ℕ
+plus width a b = (a + b) % modulus width
+
+abbrev pub minus : ℕ → ℕ → ℕ → ℕ
+minus width a b = (a + (modulus width - b)) % modulus width

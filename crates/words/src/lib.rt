@@ -1,0 +1,192 @@
+use answer::ByteAt;
+use answer::Refusal;
+use answer::SampleAt;
+ghost use mathlib.Core.Path.{_≡_};
+ghost use mathlib.Core.Bool.{true};
+ghost use mathlib.Core.List.{[], _∷_};
+ghost use Prim.Native.Nat.{_+_, _≤_};
+ghost use lib.ListN.{length};
+ghost use Rattle.words.specs.Word.{wordAt};
+ghost use Rattle.words.specs.Promises.{served, loadWidth, Joined, Placed, ReadWord, LoadedWord};
+
+// The answer of `read_word`.
+pub enum Word {
+    Value(u64),
+    Refused(Refusal),
+}
+
+// The answer of `load`.
+pub enum Loaded {
+    Value(u32),
+    Refused(Refusal),
+}
+
+// The answer of `byte_place`.
+pub enum Place {
+    At(ByteAt),
+    Refused(Refusal),
+}
+
+// Whether words of this many bytes are read.
+pub fn width_served(width: usize) -> bool
+    ensures { λ r. ⌜ r ≡ served width ⌝ }
+{
+    if width == 1 {
+        return true;
+    }
+    if width == 2 {
+        return true;
+    }
+    if width == 4 {
+        return true;
+    }
+    width == 8
+}
+
+// The word of two bytes, the least significant first.
+pub fn join2(a: u8, b: u8) -> u16
+    ensures { λ r. ⌜ Joined (a ∷ b ∷ []) r ⌝ }
+{
+    (a as u16) + 256 * (b as u16)
+}
+
+// The word of four bytes, the least significant first.
+pub fn join4(a: u8, b: u8, c: u8, d: u8) -> u32
+    ensures { λ r. ⌜ Joined (a ∷ b ∷ c ∷ d ∷ []) r ⌝ }
+{
+    (a as u32) + 256 * (b as u32) + 65536 * (c as u32) + 16777216 * (d as u32)
+}
+
+// The word of eight bytes, the least significant first.
+pub fn join8(a: u8, b: u8, c: u8, d: u8, e: u8, f: u8, g: u8, h: u8) -> u64
+    ensures { λ r. ⌜ Joined (a ∷ b ∷ c ∷ d ∷ e ∷ f ∷ g ∷ h ∷ []) r ⌝ }
+{
+    (join4(a, b, c, d) as u64) + 4294967296 * (join4(e, f, g, h) as u64)
+}
+
+// The byte at which sample i begins, among `length` bytes of samples of this width.
+pub fn byte_place(i: SampleAt, width: usize, length: usize) -> Place
+    ensures { λ r. ⌜ Placed (i .0) width length r ⌝ }
+{
+    let n = i.0;
+    if width == 0 {
+        return Place::Refused(Refusal::Unsupported);
+    }
+    if length / width <= n {
+        return Place::Refused(Refusal::Truncated);
+    }
+    Place::At(ByteAt(n * width))
+}
+
+fn get2(s: &[u8], at: usize, le: bool) -> u16
+    requires { ⌜ at + 2 ≤ length (now s) ⌝ }
+    ensures { λ r. ⌜ r ≡ wordAt (now (s .entry)) at 2 le ⌝ }
+{
+    if le {
+        join2(s[at], s[at + 1])
+    } else {
+        join2(s[at + 1], s[at])
+    }
+}
+
+fn get4(s: &[u8], at: usize, le: bool) -> u32
+    requires { ⌜ at + 4 ≤ length (now s) ⌝ }
+    ensures { λ r. ⌜ r ≡ wordAt (now (s .entry)) at 4 le ⌝ }
+{
+    if le {
+        join4(s[at], s[at + 1], s[at + 2], s[at + 3])
+    } else {
+        join4(s[at + 3], s[at + 2], s[at + 1], s[at])
+    }
+}
+
+fn get8(s: &[u8], at: usize, le: bool) -> u64
+    requires { ⌜ at + 8 ≤ length (now s) ⌝ }
+    ensures { λ r. ⌜ r ≡ wordAt (now (s .entry)) at 8 le ⌝ }
+{
+    if le {
+        join8(
+            s[at],
+            s[at + 1],
+            s[at + 2],
+            s[at + 3],
+            s[at + 4],
+            s[at + 5],
+            s[at + 6],
+            s[at + 7],
+        )
+    } else {
+        join8(
+            s[at + 7],
+            s[at + 6],
+            s[at + 5],
+            s[at + 4],
+            s[at + 3],
+            s[at + 2],
+            s[at + 1],
+            s[at],
+        )
+    }
+}
+
+fn get(s: &[u8], at: usize, width: usize, le: bool) -> u64
+    requires { ⌜ (served width ≡ true) × (at + width ≤ length (now s)) ⌝ }
+    ensures { λ r. ⌜ r ≡ wordAt (now (s .entry)) at width le ⌝ }
+{
+    if width == 1 {
+        s[at] as u64
+    } else if width == 2 {
+        get2(s, at, le) as u64
+    } else if width == 4 {
+        get4(s, at, le) as u64
+    } else {
+        get8(s, at, le)
+    }
+}
+
+// The word of `width` bytes at a place.
+pub fn read_word(s: &[u8], at: ByteAt, width: usize, le: bool) -> Word
+    ensures { λ r. ⌜ ReadWord (now (s .entry)) (at .0) width le r ⌝ }
+{
+    let at = at.0;
+    if !width_served(width) {
+        return Word::Refused(Refusal::Unsupported);
+    }
+    if s.len() < width {
+        return Word::Refused(Refusal::Truncated);
+    }
+    if s.len() - width < at {
+        return Word::Refused(Refusal::Truncated);
+    }
+    Word::Value(get(s, at, width, le))
+}
+
+fn load_width(wide: bool) -> usize
+    ensures { λ r. ⌜ r ≡ loadWidth wide ⌝ }
+{
+    if wide { 2 } else { 1 }
+}
+
+fn load_at(s: &[u8], at: usize, wide: bool, le: bool) -> u32
+    requires { ⌜ at + loadWidth wide ≤ length (now s) ⌝ }
+    ensures { λ r. ⌜ r ≡ wordAt (now (s .entry)) at (loadWidth wide) le ⌝ }
+{
+    if wide {
+        get2(s, at, le) as u32
+    } else {
+        s[at] as u32
+    }
+}
+
+// Sample i of one byte, or of two if `wide`.
+pub fn load(s: &[u8], i: SampleAt, wide: bool, le: bool) -> Loaded
+    ensures { λ r. ⌜ LoadedWord (now (s .entry)) (i .0) wide le r ⌝ }
+{
+    match byte_place(i, load_width(wide), s.len()) {
+        Place::At(at) => {
+            let at = at.0;
+            Loaded::Value(load_at(s, at, wide, le))
+        }
+        Place::Refused(k) => Loaded::Refused(k),
+    }
+}
