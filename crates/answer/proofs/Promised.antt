@@ -1,10 +1,10 @@
 -- What every promise gives: one answer and one content of the buffer, which a refusal leaves as it was and success changes at its front alone;
 -- and of a list of faults: the refusal given is that of the first fault, and is given only then. Assumes nothing.
 use Prim.{Unit}
-use Prim.Native.Nat.{ℕ, zero, suc, _+_, _-_, _≤_}
+use Prim.Native.Nat.{ℕ, zero, suc, _≤_}
 use mathlib.Core.Path.{_≡_, refl, sym, ap, _∙_}
 use mathlib.Core.Bool.{Bool, true, false}
-use mathlib.Core.List.{List, [], _∷_, _++_}
+use mathlib.Core.List.{List, [], _∷_}
 use mathlib.Core.Logic.{_⊎_, inl, inr}
 use native.Mathlib.Omega.{arith}
 use lib.ListN.{length, take, drop, length-append, length-drop}
@@ -15,7 +15,7 @@ use Rattle.answer.specs.declared.Done.{Done}
 use Rattle.answer.specs.declared.Done.the-variants as Done-is
 use Rattle.answer.specs.Table.{table, filled}
 use Rattle.answer.proofs.Filling.{whole}
-use Rattle.answer.specs.Outcome.{Outcome, done, refused, Fault, pick, unless, Promise, after, number, doneOutcome, First, here, later, Sound, none, next}
+use Rattle.answer.specs.Outcome.{Outcome, done, refused, Fault, unless, Promise, after, number, doneOutcome, First, here, later, Sound, none, next}
 
 -- two outcomes that one promise allows are the same
 pub determined : {A : Type 0} {o : Outcome A} {w old : List ℕ} (a b : Outcome A) (x y : List ℕ) → Promise o w old a x → Promise o w old b y → (a ≡ b) × (x ≡ y)

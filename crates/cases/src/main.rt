@@ -1,12 +1,65 @@
-// Runs document 01's cases over the library, prints those that differ, and then one line of counts.
+// Runs document 01's cases, the lines of `stdin`, over the library; prints those that differ, and then one line of counts.
 mod lent;
 mod tally;
+mod text;
 mod transport_cases;
 mod word_cases;
 
+use tally::Tally;
+
+// Whether the case of this line holds; a line that names no call does not.
+fn holds(line: &[u8]) -> bool {
+    let call = text::token(line, 0);
+    if check::same(call, b"read_word") {
+        return word_cases::read_word(line);
+    }
+    if check::same(call, b"load") {
+        return word_cases::load(line);
+    }
+    if check::same(call, b"byte_place") {
+        return word_cases::byte_place(line);
+    }
+    if check::same(call, b"swap_components") {
+        return transport_cases::swap_components(line);
+    }
+    if check::same(call, b"reverse_bits") {
+        return transport_cases::reverse_bits(line);
+    }
+    if check::same(call, b"commit_uninit") {
+        return transport_cases::commit_uninit(line);
+    }
+    false
+}
+
+// An empty line, and one that begins with '#', is no case.
+fn is_case(line: &[u8]) -> bool {
+    if line.len() == 0 {
+        return false;
+    }
+    line[0] != b'#'
+}
+
+fn run(t: Tally, line: &[u8]) -> Tally {
+    if is_case(line) {
+        return t.saw(line, holds(line));
+    }
+    t
+}
+
+fn run_all(s: &[u8]) -> Tally {
+    let mut t = Tally::new();
+    let mut at: usize = 0;
+    while at < s.len() {
+        let end = text::find(s, at, b'\n', true);
+        t = run(t, &s[at..end]);
+        at = end + 1;
+    }
+    t
+}
+
 fn main() {
-    let t = tally::Tally::new();
-    let t = word_cases::run(t);
-    let t = transport_cases::run(t);
+    let mut space = io::large_buffer();
+    let n = io::read_full(libc::STDIN_FILENO, &mut space);
+    let t = run_all(&space[..n]);
     t.print();
 }

@@ -11,8 +11,8 @@ impl Tally {
         Tally { run: 0, differ: 0 }
     }
 
-    // One case more, whose name is printed where it did not hold.
-    pub fn saw(self, name: &[u8], held: bool) -> Self {
+    // One case more, which is printed where it did not hold.
+    pub fn saw(self, case: &[u8], held: bool) -> Self {
         let run = std::num::wrapping_add_u64(self.run, 1);
         if held {
             return Tally {
@@ -20,8 +20,9 @@ impl Tally {
                 differ: self.differ,
             };
         }
-        io::write_all(STDOUT_FILENO, name);
-        io::write_all(STDOUT_FILENO, b": differs\n");
+        io::write_all(STDOUT_FILENO, b"differs: ");
+        io::write_all(STDOUT_FILENO, case);
+        io::write_all(STDOUT_FILENO, b"\n");
         Tally {
             run,
             differ: std::num::wrapping_add_u64(self.differ, 1),

@@ -2,16 +2,12 @@
 use mathlib.Core.Path.{_≡_, sym, _∙_}
 use mathlib.Core.List.{List}
 use Prim.Native.Nat.{ℕ}
-use Rattle.answer.specs.Outcome.{Outcome, Promise, doneOutcome}
 use Rattle.answer.specs.declared.Done.{Done}
 use Rattle.answer.proofs.Promised.{done-determined}
-use Rattle.transport.specs.Moved.{Committed, Turned, Swapped}
+use Rattle.transport.specs.Moved.{Committed, Turned}
 
 pub commit-uninit-determined : (source old : List ℕ) (a b : Done) (x y : List ℕ) → Committed source old a x → Committed source old b y → (a ≡ b) × (x ≡ y)
 commit-uninit-determined source old = done-determined
 
 pub reverse-bits-determined : (old x y : List ℕ) → Turned old x → Turned old y → x ≡ y
 reverse-bits-determined old x y p q = p ∙ sym q
-
-pub swap-components-determined : (raw : List ℕ) (width : ℕ) (old : List ℕ) (a b : Done) (x y : List ℕ) → Swapped raw width old a x → Swapped raw width old b y → (a ≡ b) × (x ≡ y)
-swap-components-determined raw width old = done-determined

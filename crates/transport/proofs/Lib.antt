@@ -1,4 +1,2 @@
-pub mod Mirror
-pub mod Swapping
 pub mod Twice
 pub mod Determined

@@ -1,11 +1,10 @@
-mod swap;
-
 use answer::Done;
 use answer::Refusal;
+pub use swaps::swap_components;
 ghost use mathlib.Core.Path.{_≡_};
 ghost use Prim.Native.Nat.{_≤_};
 ghost use lib.ListN.{length};
-ghost use Rattle.transport.specs.Moved.{Committed, CopiedInto, reversed, Turned, Swapped, SwapFits, SwappedInto};
+ghost use Rattle.transport.specs.Moved.{Committed, CopiedInto, reversed, Turned};
 
 fn copy(source: &[u8], out: &mut [u8])
     requires { ⌜ length (now source) ≤ length (now out) ⌝ }
@@ -51,40 +50,4 @@ pub fn reverse_bits(s: &mut [u8])
         s[i] = reversed_byte(s[i]);
         i += 1;
     }
-}
-
-fn swap_groups(raw: &[u8], width: usize, out: &mut [u8])
-    requires { ⌜ (width ≤ 8) × SwapFits (now raw) width (now out) ⌝ }
-    ensures { λ r. ⌜ SwappedInto (now (raw .entry)) width (now (out .entry)) (now (out .exit)) ⌝ }
-{
-    match width {
-        1 => copy(raw, out),
-        2 => swap::swap2(raw, out),
-        3 => swap::swap3(raw, out),
-        4 => swap::swap4(raw, out),
-        5 => swap::swap5(raw, out),
-        6 => swap::swap6(raw, out),
-        7 => swap::swap7(raw, out),
-        _ => swap::swap8(raw, out),
-    }
-}
-
-// Each group of `width` bytes, written backwards.
-pub fn swap_components(raw: &[u8], width: usize, out: &mut [u8]) -> Done
-    ensures { λ r. ⌜ Swapped (now (raw .entry)) width (now (out .entry)) r (now (out .exit)) ⌝ }
-{
-    if width == 0 {
-        return Done::Refused(Refusal::Unsupported);
-    }
-    if 8 < width {
-        return Done::Refused(Refusal::Unsupported);
-    }
-    if raw.len() % width != 0 {
-        return Done::Refused(Refusal::Invalid);
-    }
-    if out.len() < raw.len() {
-        return Done::Refused(Refusal::OutputTooSmall);
-    }
-    swap_groups(raw, width, out);
-    Done::Done
 }

@@ -1,7 +1,7 @@
 -- The laws of digits, over the base and their number: a number of n digits is below b^n, its digits are those that it was made of,
 -- and the number of v's first n digits is v modulo b^n. Assumes nothing.
 use mathlib.Core.Path.{_≡_, refl, sym, ap, _∙_}
-use Prim.Native.Nat.{ℕ, zero, suc, _+_, _-_, _*_, _/_, _%_, _^_, _≤_, _<_}
+use Prim.Native.Nat.{ℕ, zero, suc, _+_, _*_, _/_, _%_, _^_, _≤_, _<_}
 use native.Mathlib.Nat.{pow-zero, pow-suc, pow-succ', one-le-pow, mul-comm, mul-suc, div-one, mod-lt, mod-eq-of-lt, mod-one, add-mul-mod-self-left, add-mul-div-left, div-eq-of-lt, div-div-eq-div-mul, mul-le-mul-left, add-comm}
 use native.Mathlib.Omega.{arith}
 use lib.Arith.{mod-mul}

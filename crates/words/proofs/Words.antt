@@ -1,13 +1,13 @@
 -- The laws of words, over the width: what a word's digits are and what word a number's digits make, in either byte order;
 -- that adding and taking away modulo 256^width undo each other. Assumes nothing.
-use mathlib.Core.Path.{_≡_, refl, sym, ap, _∙_}
+use mathlib.Core.Path.{_≡_, refl, ap, _∙_}
 use mathlib.Core.Bool.{Bool, true, false}
 use mathlib.Core.List.{List}
-use Prim.Native.Nat.{ℕ, zero, suc, _+_, _-_, _*_, _/_, _%_, _^_, _≤_, _<_}
+use Prim.Native.Nat.{ℕ, _+_, _-_, _%_, _<_}
 use native.Mathlib.Nat.{add-zero, one-le-pow, mod-lt, mod-eq-of-lt, mod-add-mod, add-mod-right}
 use native.Mathlib.Omega.{arith}
 use lib.ListN.{getD}
-use Rattle.words.specs.Digits.{digit, value}
+use Rattle.words.specs.Digits.{digit}
 use Rattle.words.specs.Word.{turn, Bytes, wordAt, modulus, plus, minus}
 use Rattle.words.proofs.Digits.{value-same, value-below, digit-value, value-digit}
 

@@ -1,9 +1,9 @@
 use borrow.Author.Needs.{needs}
 use native.Mathlib.Omega.{arith}
-use Prim.Native.Nat.{ℕ, _+_, _-_, _*_, _%_, _≤_, _<_}
-use mathlib.Core.Path.{_≡_, refl, sym, ap, _∙_}
-use mathlib.Core.List.{List, [], _∷_, _++_}
-use lib.ListN.{length, getD, set, take, drop, length-set}
+use Prim.Native.Nat.{ℕ, _-_, _≤_}
+use mathlib.Core.Path.{_≡_, refl, ap, _∙_}
+use mathlib.Core.List.{List}
+use lib.ListN.{length, getD, length-set}
 use denote.Ref.{now}
 use lib.Seq.{drop-length}
 use mathlib.Core.List.{append-nil}
@@ -12,9 +12,6 @@ use Rattle.answer.proofs.Filling.{filled-more, filled-rest}
 use Rattle.transport.specs.Moved.{reversed}
 use Rattle.transport.proofs.reverse_bits.Statement.{statement}
 use Rattle.transport.proofs.reverse_bits.Tie as tie
-use Rattle.transport.proofs.reverse_bits.Reads as reads
-use Rattle.transport.proofs.reverse_bits.Lts as lts
-use Rattle.transport.proofs.reversed_byte.Reads as reversed-byte-reads
 
 abbrev Inv-loop : tie.InvT-loop
 Inv-loop s₀ i₀ s i = (i ≤ length s₀) × (length s ≡ length s₀) × (s ≡ filled i (λ k. reversed (getD s₀ k 0)) s₀)
@@ -22,31 +19,24 @@ Inv-loop s₀ i₀ s i = (i ≤ length s₀) × (length s ≡ length s₀) × (s
 abbrev μ-loop : tie.MeasureT-loop
 μ-loop s₀ i₀ s i = length s₀ - i
 
--- src/lib.rt:41:5
 loop-holds : tie.Need-loop-holds Inv-loop μ-loop
 loop-holds c = (search needs, refl, refl)
 
--- src/lib.rt:42:30
 slice-read-reversed-byte : tie.Need-slice-read-reversed-byte Inv-loop μ-loop
 slice-read-reversed-byte c = omega arith
 
--- src/lib.rt:42:16
 reversed-byte-requires : tie.Need-reversed-byte-requires Inv-loop μ-loop
 reversed-byte-requires c κs = search needs
 
--- src/lib.rt:42:9
 slice-write-s : tie.Need-slice-write-s Inv-loop μ-loop
 slice-write-s c = omega arith
 
--- src/lib.rt:43:9
 add-i : tie.Need-add-i Inv-loop μ-loop
 add-i c = search needs
 
--- src/lib.rt:41:5
 loop-less : tie.Need-loop-less Inv-loop μ-loop
 loop-less c = omega arith
 
--- src/lib.rt:41:5
 loop-again : tie.Need-loop-again Inv-loop μ-loop
 loop-again c =
     let at = c .before .before .before in
@@ -58,11 +48,9 @@ loop-again c =
       rw (c .reversed-byte .ensures, unread, at .loop .inv .2) (filled-more i (λ k. reversed (getD old k 0)) old (omega arith)),
     )
 
--- src/lib.rt:37:1
 same-length : tie.Need-same-length Inv-loop μ-loop
 same-length c = search needs
 
--- src/lib.rt:37:1
 returns : tie.Need-returns Inv-loop μ-loop
 returns c =
     let at = c .before in

@@ -1,0 +1,4 @@
+pub mod Mirror
+pub mod Swapping
+pub mod Twice
+pub mod Determined

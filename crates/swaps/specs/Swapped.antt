@@ -1,0 +1,40 @@
+-- What `swap_components` promises: each group of `width` bytes written backwards, widths 1 to 8; the refusals are document 01's, in its order.
+-- Bytes are moved, never read as numbers. Assumes nothing.
+use Prim.Native.Nat.{ℕ, _+_, _-_, _%_, _≤_, _<_}
+use mathlib.Core.Path.{_≡_}
+use mathlib.Core.Bool.{not}
+use mathlib.Core.List.{List, [], _∷_}
+use lib.ListN.{length, getD}
+use lib.Dec.{eqb, ltb}
+use Rattle.answer.specs.Outcome.{Fault, unless, unsupported, invalid, outputTooSmall, Promise, doneOutcome}
+use Rattle.answer.specs.Table.{table, filled}
+use Rattle.answer.specs.declared.Done.{Done}
+
+-- the place that mirrors k in its group of `width` bytes
+abbrev pub mirror : ℕ → ℕ → ℕ
+mirror width k = k - k % width + (width - 1 - k % width)
+
+abbrev pub swappedAt : List ℕ → ℕ → ℕ → ℕ
+swappedAt raw width k = getD raw (mirror width k) 0
+
+-- each group of `width` bytes backwards
+abbrev pub swapFaults : List ℕ → ℕ → List ℕ → List Fault
+swapFaults raw width old =
+    unsupported (eqb width 0)
+    ∷ unsupported (ltb 8 width)
+    ∷ invalid (not (eqb (length raw % width) 0))
+    ∷ outputTooSmall (ltb (length old) (length raw))
+    ∷ []
+
+abbrev pub Swapped : List ℕ → ℕ → List ℕ → Done → List ℕ → Type 0
+Swapped raw width old answer new =
+    Promise (unless (swapFaults raw width old) tt) (table (length raw) (swappedAt raw width)) old (doneOutcome answer) new
+
+-- what the loops that swap need: whole groups, and room for them; and what they do
+pub record SwapFits (raw : List ℕ) (width : ℕ) (out : List ℕ) : Type 0 where
+  pub some : 0 < width
+  pub groups : length raw % width ≡ 0
+  pub room : length raw ≤ length out
+
+abbrev pub SwappedInto : List ℕ → ℕ → List ℕ → List ℕ → Type 0
+SwappedInto raw width old new = new ≡ filled (length raw) (swappedAt raw width) old
