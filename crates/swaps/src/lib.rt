@@ -2,11 +2,10 @@ mod loops;
 
 use answer::Done;
 use answer::Refusal;
-ghost use Prim.Native.Nat.{_≤_};
 ghost use Rattle.swaps.specs.Swapped.{Swapped, SwapFits, SwappedInto};
 
 fn swap_groups(raw: &[u8], width: usize, out: &mut [u8])
-    requires { ⌜ (width ≤ 8) × SwapFits (now raw) width (now out) ⌝ }
+    requires { ⌜ SwapFits (now raw) width (now out) ⌝ }
     ensures { λ r. ⌜ SwappedInto (now (raw .entry)) width (now (out .entry)) (now (out .exit)) ⌝ }
 {
     match width {
@@ -14,10 +13,8 @@ fn swap_groups(raw: &[u8], width: usize, out: &mut [u8])
         2 => loops::swap2(raw, out),
         3 => loops::swap3(raw, out),
         4 => loops::swap4(raw, out),
-        5 => loops::swap5(raw, out),
-        6 => loops::swap6(raw, out),
-        7 => loops::swap7(raw, out),
-        _ => loops::swap8(raw, out),
+        8 => loops::swap8(raw, out),
+        _ => loops::swap_any(raw, width, out),
     }
 }
 

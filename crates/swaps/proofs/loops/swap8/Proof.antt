@@ -19,92 +19,92 @@ abbrev μ-loop : tie.MeasureT-loop
 loop-holds : tie.Need-loop-holds Inv-loop μ-loop
 loop-holds c = begun _ 8 _
 
-add-out : tie.Need-add-out Inv-loop μ-loop
-add-out c = omega arith
+shared-slice-read-a : tie.Need-shared-slice-read-a Inv-loop μ-loop
+shared-slice-read-a c = omega arith
 
-shared-slice-read-out : tie.Need-shared-slice-read-out Inv-loop μ-loop
-shared-slice-read-out c = omega arith
+add-b : tie.Need-add-b Inv-loop μ-loop
+add-b c = omega arith
+
+shared-slice-read-b : tie.Need-shared-slice-read-b Inv-loop μ-loop
+shared-slice-read-b c = omega arith
+
+add-c : tie.Need-add-c Inv-loop μ-loop
+add-c c = omega arith
+
+shared-slice-read-c : tie.Need-shared-slice-read-c Inv-loop μ-loop
+shared-slice-read-c c = omega arith
+
+add-d : tie.Need-add-d Inv-loop μ-loop
+add-d c = omega arith
+
+shared-slice-read-d : tie.Need-shared-slice-read-d Inv-loop μ-loop
+shared-slice-read-d c = omega arith
+
+add-e : tie.Need-add-e Inv-loop μ-loop
+add-e c = omega arith
+
+shared-slice-read-e : tie.Need-shared-slice-read-e Inv-loop μ-loop
+shared-slice-read-e c = omega arith
+
+add-f : tie.Need-add-f Inv-loop μ-loop
+add-f c = omega arith
+
+shared-slice-read-f : tie.Need-shared-slice-read-f Inv-loop μ-loop
+shared-slice-read-f c = omega arith
+
+add-g : tie.Need-add-g Inv-loop μ-loop
+add-g c = omega arith
+
+shared-slice-read-g : tie.Need-shared-slice-read-g Inv-loop μ-loop
+shared-slice-read-g c = omega arith
+
+add-h : tie.Need-add-h Inv-loop μ-loop
+add-h c = omega arith
+
+shared-slice-read-h : tie.Need-shared-slice-read-h Inv-loop μ-loop
+shared-slice-read-h c = omega arith
 
 slice-write-out : tie.Need-slice-write-out Inv-loop μ-loop
 slice-write-out c = omega arith
 
-add-out-2 : tie.Need-add-out-2 Inv-loop μ-loop
-add-out-2 c = omega arith
-
-shared-slice-read-out-2 : tie.Need-shared-slice-read-out-2 Inv-loop μ-loop
-shared-slice-read-out-2 c = omega arith
-
-add-out-3 : tie.Need-add-out-3 Inv-loop μ-loop
-add-out-3 c = omega arith
+add-out : tie.Need-add-out Inv-loop μ-loop
+add-out c = omega arith
 
 slice-write-out-2 : tie.Need-slice-write-out-2 Inv-loop μ-loop
 slice-write-out-2 c = simp length-set (omega arith)
 
-add-out-4 : tie.Need-add-out-4 Inv-loop μ-loop
-add-out-4 c = omega arith
-
-shared-slice-read-out-3 : tie.Need-shared-slice-read-out-3 Inv-loop μ-loop
-shared-slice-read-out-3 c = omega arith
-
-add-out-5 : tie.Need-add-out-5 Inv-loop μ-loop
-add-out-5 c = omega arith
+add-out-2 : tie.Need-add-out-2 Inv-loop μ-loop
+add-out-2 c = omega arith
 
 slice-write-out-3 : tie.Need-slice-write-out-3 Inv-loop μ-loop
 slice-write-out-3 c = simp length-set (omega arith)
 
-add-out-6 : tie.Need-add-out-6 Inv-loop μ-loop
-add-out-6 c = omega arith
-
-shared-slice-read-out-4 : tie.Need-shared-slice-read-out-4 Inv-loop μ-loop
-shared-slice-read-out-4 c = omega arith
-
-add-out-7 : tie.Need-add-out-7 Inv-loop μ-loop
-add-out-7 c = omega arith
+add-out-3 : tie.Need-add-out-3 Inv-loop μ-loop
+add-out-3 c = omega arith
 
 slice-write-out-4 : tie.Need-slice-write-out-4 Inv-loop μ-loop
 slice-write-out-4 c = simp length-set (omega arith)
 
-add-out-8 : tie.Need-add-out-8 Inv-loop μ-loop
-add-out-8 c = omega arith
-
-shared-slice-read-out-5 : tie.Need-shared-slice-read-out-5 Inv-loop μ-loop
-shared-slice-read-out-5 c = omega arith
-
-add-out-9 : tie.Need-add-out-9 Inv-loop μ-loop
-add-out-9 c = omega arith
+add-out-4 : tie.Need-add-out-4 Inv-loop μ-loop
+add-out-4 c = omega arith
 
 slice-write-out-5 : tie.Need-slice-write-out-5 Inv-loop μ-loop
 slice-write-out-5 c = simp length-set (omega arith)
 
-add-out-10 : tie.Need-add-out-10 Inv-loop μ-loop
-add-out-10 c = omega arith
-
-shared-slice-read-out-6 : tie.Need-shared-slice-read-out-6 Inv-loop μ-loop
-shared-slice-read-out-6 c = omega arith
-
-add-out-11 : tie.Need-add-out-11 Inv-loop μ-loop
-add-out-11 c = omega arith
+add-out-5 : tie.Need-add-out-5 Inv-loop μ-loop
+add-out-5 c = omega arith
 
 slice-write-out-6 : tie.Need-slice-write-out-6 Inv-loop μ-loop
 slice-write-out-6 c = simp length-set (omega arith)
 
-add-out-12 : tie.Need-add-out-12 Inv-loop μ-loop
-add-out-12 c = omega arith
-
-shared-slice-read-out-7 : tie.Need-shared-slice-read-out-7 Inv-loop μ-loop
-shared-slice-read-out-7 c = omega arith
-
-add-out-13 : tie.Need-add-out-13 Inv-loop μ-loop
-add-out-13 c = omega arith
+add-out-6 : tie.Need-add-out-6 Inv-loop μ-loop
+add-out-6 c = omega arith
 
 slice-write-out-7 : tie.Need-slice-write-out-7 Inv-loop μ-loop
 slice-write-out-7 c = simp length-set (omega arith)
 
-shared-slice-read-out-8 : tie.Need-shared-slice-read-out-8 Inv-loop μ-loop
-shared-slice-read-out-8 c = omega arith
-
-add-out-14 : tie.Need-add-out-14 Inv-loop μ-loop
-add-out-14 c = omega arith
+add-out-7 : tie.Need-add-out-7 Inv-loop μ-loop
+add-out-7 c = omega arith
 
 slice-write-out-8 : tie.Need-slice-write-out-8 Inv-loop μ-loop
 slice-write-out-8 c = simp length-set (omega arith)
@@ -136,35 +136,35 @@ swap8-spec =
     Inv-loop
     μ-loop
     loop-holds
-    add-out
-    shared-slice-read-out
+    shared-slice-read-a
+    add-b
+    shared-slice-read-b
+    add-c
+    shared-slice-read-c
+    add-d
+    shared-slice-read-d
+    add-e
+    shared-slice-read-e
+    add-f
+    shared-slice-read-f
+    add-g
+    shared-slice-read-g
+    add-h
+    shared-slice-read-h
     slice-write-out
-    add-out-2
-    shared-slice-read-out-2
-    add-out-3
+    add-out
     slice-write-out-2
-    add-out-4
-    shared-slice-read-out-3
-    add-out-5
+    add-out-2
     slice-write-out-3
-    add-out-6
-    shared-slice-read-out-4
-    add-out-7
+    add-out-3
     slice-write-out-4
-    add-out-8
-    shared-slice-read-out-5
-    add-out-9
+    add-out-4
     slice-write-out-5
-    add-out-10
-    shared-slice-read-out-6
-    add-out-11
+    add-out-5
     slice-write-out-6
-    add-out-12
-    shared-slice-read-out-7
-    add-out-13
+    add-out-6
     slice-write-out-7
-    shared-slice-read-out-8
-    add-out-14
+    add-out-7
     slice-write-out-8
     add-at
     loop-less
