@@ -7,9 +7,9 @@ use native.Mathlib.Nat.{add-zero}
 use native.Mathlib.Numerals.{add-one}
 use native.Mathlib.Decide.{decLt}
 use native.Mathlib.Omega.{arith}
-use lib.ListN.{length, getD, drop, set, length-append, length-drop, length-set, List·getD-append}
-use lib.Seq.{drop-cons, set-at, getD-at, getD-append-add, getD-drop, ext-getD}
-use Rattle.answer.specs.Table.{table, filled}
+use lib.ListN.{length, getD, take, drop, set, take-append-drop, length-append, length-drop, length-set, List·getD-append}
+use lib.Seq.{drop-cons, drop-drop, drop-append-add, set-at, take-at, getD-at, getD-append-add, getD-drop, ext-getD}
+use Rattle.answer.specs.Table.{table, filled, stores}
 
 pub length-table : (n : ℕ) (f : ℕ → ℕ) → length (table n f) ≡ n
 length-table zero f = refl
@@ -42,11 +42,6 @@ length-filled i f old h = simp (length-append, length-table, length-drop) (omega
 pub filled-more : (i : ℕ) (f : ℕ → ℕ) (old : List ℕ) → i < length old → set (filled i f old) i (f i) ≡ filled (i + 1) f old
 filled-more i f old h = rw (add-one, drop-cons old i 0) (set-at (table i f) _ (drop (suc i) old) (f i) i (length-table i f) ∙ sym (append-assoc (table i f) (f i ∷ []) (drop (suc i) old)))
 
--- n stores from a place on: g p at place + p
-abbrev pub stores : List ℕ → ℕ → ℕ → (ℕ → ℕ) → List ℕ
-stores out at zero g = out
-stores out at (suc n) g = set (stores out at n g) (at + n) (g n)
-
 pub length-stores : (out : List ℕ) (at n : ℕ) (g : ℕ → ℕ) → length (stores out at n g) ≡ length out
 length-stores out at zero g = refl
 length-stores out at (suc n) g = length-set (stores out at n g) (at + n) (g n) ∙ length-stores out at n g
@@ -63,6 +58,30 @@ pub filled-rest : (i : ℕ) (f : ℕ → ℕ) (old : List ℕ) (k : ℕ) → i �
 filled-rest i f old k h =
     let past : k ≡ length (table i f) + (k - i) = omega (arith, length-table i f) in
     ap (λ (n : ℕ). getD (filled i f old) n 0) past ∙ getD-append-add (table i f) (drop i old) (k - i) 0 ∙ getD-drop i old (k - i) 0 ∙ ap (λ (n : ℕ). getD old n 0) (omega arith)
+
+-- and what is filled is f
+pub filled-front : (i : ℕ) (f : ℕ → ℕ) (old : List ℕ) (k : ℕ) → k < i → getD (filled i f old) k 0 ≡ f k
+filled-front i f old k h = List·getD-append (table i f) (drop i old) 0 k (rw length-table h) ∙ table-at i f k h
+
+-- filling on from what is filled
+pub filled-on : (i n : ℕ) (f : ℕ → ℕ) (old : List ℕ) → i ≤ n → filled n f (filled i f old) ≡ filled n f old
+filled-on i n f old h =
+    let rest : n ≡ length (table i f) + (n - i) = omega (arith, length-table i f) in
+    let end : i + (n - i) ≡ n = omega arith in
+    let past : drop n (filled i f old) ≡ drop n old =
+        ap (λ (m : ℕ). drop m (filled i f old)) rest ∙ drop-append-add (table i f) (drop i old) (n - i) ∙ drop-drop (n - i) i old ∙ ap (λ (m : ℕ). drop m old) end in
+    ap (λ (l : List ℕ). table n f ++ l) past
+
+-- a buffer whose front is the table is filled already
+pub filled-already : (i : ℕ) (f : ℕ → ℕ) (old : List ℕ) → take i old ≡ table i f → filled i f old ≡ old
+filled-already i f old e = rw (← e) (take-append-drop i old)
+
+-- the same function below the end
+pub filled-same : (i : ℕ) (f g : ℕ → ℕ) (old : List ℕ) → ((k : ℕ) → k < i → f k ≡ g k) → filled i f old ≡ filled i g old
+filled-same i f g old e = ap (λ (l : List ℕ). l ++ drop i old) (table-same i f g e)
+
+pub filled-take : (i : ℕ) (f : ℕ → ℕ) (old : List ℕ) → take i (filled i f old) ≡ table i f
+filled-take i f old = take-at (table i f) (drop i old) i (length-table i f)
 
 -- a buffer filled to the table's end is what a promise leaves
 pub whole : (n : ℕ) (f : ℕ → ℕ) (old : List ℕ) → filled n f old ≡ table n f ++ drop (length (table n f)) old

@@ -14,7 +14,7 @@ use Rattle.answer.specs.declared.Refusal.the-variants.{Unsupported, Inva
 use Rattle.answer.specs.declared.Done.{Done}
 use Rattle.answer.specs.declared.Done.the-variants as Done-is
 use Rattle.answer.specs.Table.{table, filled}
-use Rattle.answer.proofs.Filling.{whole}
+use Rattle.answer.proofs.Filling.{whole, length-table}
 use Rattle.answer.specs.Outcome.{Outcome, done, refused, Fault, unless, Promise, after, number, doneOutcome, First, here, later, Sound, none, next}
 
 -- two outcomes that one promise allows are the same
@@ -36,6 +36,12 @@ writes {A} {o} {w} {old} a new p = rw (by-answer (done a) new p) (take-append-se
 -- and leaves what is past the work as it was
 pub spares : {A : Type 0} {o : Outcome A} {w old : List ℕ} (a : A) (new : List ℕ) → Promise o w old (done a) new → drop (length w) new ≡ drop (length w) old
 spares {A} {o} {w} {old} a new p = rw (by-answer (done a) new p) (drop-append-seam w (drop (length w) old))
+
+-- two calls, the second over what the first wrote: what the second writes
+pub in-turn : {A B : Type 0} {o : Outcome A} {q : Outcome B} (n : ℕ) (f : ℕ → ℕ) (then : List ℕ → ℕ → ℕ) (old x old′ y : List ℕ) (a : A) (b : B) → Promise o (table n f) old (done a) x → Promise q (table (length (take n x)) (then (take n x))) old′ (done b) y → take n y ≡ table n (then (table n f))
+in-turn n f then old x old′ y a b first second =
+    let wrote : take n x ≡ table n f = rw (length-table n f) at (writes a x first) in
+    rw (wrote, length-table n f, length-table n (then (table n f))) at (writes b y second)
 
 -- with room for the work, the buffer keeps its length
 pub stays : {A : Type 0} {o : Outcome A} {w old : List ℕ} (a : Outcome A) (new : List ℕ) → length w ≤ length old → Promise o w old a new → length new ≡ length old
@@ -87,14 +93,25 @@ done-value fs a b e = let d = sound-done a (done-sound fs a b e) in cc
 pub refused-same : {A B : Type 0} (fs : List Fault) (a : A) (b : B) (n : ℕ) → unless fs a ≡ refused n → unless fs b ≡ refused n
 refused-same fs a b n e = first-refused b (refused-first fs a n e)
 
--- how a promise is met: by the first fault's refusal and an untouched buffer, or, with no fault, by a buffer filled with the work
+-- how a promise with no buffer is met
+pub refusing : {A : Type 0} (fs : List Fault) (a : A) {n : ℕ} → First fs n → refused n ≡ unless fs a
+refusing fs a r = sym (first-refused a r)
+
+pub finishing : {A : Type 0} (fs : List Fault) (a : A) → Sound fs → done a ≡ unless fs a
+finishing fs a s = sym (sound-done a s)
+
+-- how one with a buffer is met: by the first fault's refusal and an untouched buffer, or, with no fault, by a buffer filled with the work
 pub refuses : {A : Type 0} (fs : List Fault) (a : A) (w old : List ℕ) {n : ℕ} → First fs n → Promise (unless fs a) w old (refused n) old
 refuses {A} fs a w old r =
-    record { answers = sym (first-refused a r); leaves = sym (ap (λ (o : Outcome A). after o w old) (first-refused a r)) }
+    record { answers = refusing fs a r; leaves = sym (ap (λ (o : Outcome A). after o w old) (first-refused a r)) }
 
 pub finishes : {A : Type 0} (fs : List Fault) (a : A) (n : ℕ) (f : ℕ → ℕ) (old new : List ℕ) → Sound fs → new ≡ filled n f old → Promise (unless fs a) (table n f) old (done a) new
 finishes {A} fs a n f old new s e =
-    record { answers = sym (sound-done a s); leaves = e ∙ whole n f old ∙ sym (ap (λ (o : Outcome A). after o (table n f) old) (sound-done a s)) }
+    record { answers = finishing fs a s; leaves = e ∙ whole n f old ∙ sym (ap (λ (o : Outcome A). after o (table n f) old) (sound-done a s)) }
+
+-- what a call without a fault leaves
+pub finished : {A : Type 0} {answer : Outcome A} (fs : List Fault) (a : A) (n : ℕ) (f : ℕ → ℕ) (old new : List ℕ) → Sound fs → Promise (unless fs a) (table n f) old answer new → new ≡ filled n f old
+finished {A} fs a n f old new s p = p .leaves ∙ ap (λ (o : Outcome A). after o (table n f) old) (sound-done a s) ∙ sym (whole n f old)
 
 pub sound-here : {f : Fault} {fs : List Fault} → Sound (f ∷ fs) → f .found ≡ false
 sound-here (next t r) = t

@@ -5,8 +5,8 @@ use Prim.Native.Nat.{ℕ, _+_, _-_, _%_, _≤_, _<_}
 use native.Mathlib.Nat.{add-mod-right, zero-mod}
 use native.Mathlib.Omega.{arith}
 use lib.ListN.{length, getD, set, length-set}
-use Rattle.answer.specs.Table.{filled}
-use Rattle.answer.proofs.Filling.{stores, length-stores, stores-filled, filled-more}
+use Rattle.answer.specs.Table.{filled, stores}
+use Rattle.answer.proofs.Filling.{length-stores, stores-filled, filled-more}
 use Rattle.swaps.specs.Swapped.{mirror, swappedAt, SwapFits, SwappedInto}
 use Rattle.swaps.proofs.Mirror.{group-room, mirror-at}
 

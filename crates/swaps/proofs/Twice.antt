@@ -8,8 +8,8 @@ use lib.ListN.{length, getD, take}
 use lib.Dec.{eqb}
 use Rattle.answer.specs.Table.{table}
 use Rattle.answer.specs.declared.Done.the-variants as Done-is
-use Rattle.answer.proofs.Promised.{writes, done-sound, sound-here, sound-rest}
-use Rattle.answer.proofs.Filling.{length-table, table-at, table-same, table-self}
+use Rattle.answer.proofs.Promised.{in-turn, done-sound, sound-here, sound-rest}
+use Rattle.answer.proofs.Filling.{table-at, table-same, table-self}
 use Rattle.swaps.specs.Swapped.{mirror, swappedAt, swapFaults, Swapped}
 use Rattle.swaps.proofs.Mirror.{mirror-below, mirror-mirror}
 
@@ -22,12 +22,7 @@ swapped-back raw width some groups =
 pub swap-twice : (raw old x old′ y : List ℕ) (width : ℕ) → Swapped raw width old Done-is.Done x → Swapped (take (length raw) x) width old′ Done-is.Done y → take (length raw) y ≡ raw
 swap-twice raw old x old′ y width p q =
     let n = length raw in
-    let z = table n (swappedAt raw width) in
-    let wide : length z ≡ n = length-table n (swappedAt raw width) in
-    let first : take n x ≡ z = rw wide at (writes tt x p) in
-    let again : Swapped z width old′ Done-is.Done y = rw first at q in
-    let second : take n y ≡ table n (swappedAt z width) = rw (wide, length-table n (swappedAt z width)) at (writes tt y again) in
     let sound = done-sound (swapFaults raw width old) tt tt (sym (p .answers)) in
     let some : 0 < width = omega (arith, eqb-false width 0 (sound-here sound)) in
     let groups : n % width ≡ 0 = eqb-true (n % width) 0 (not-false (eqb (n % width) 0) (sound-here (sound-rest (sound-rest sound)))) in
-    second ∙ swapped-back raw width some groups
+    in-turn n (swappedAt raw width) (λ l. swappedAt l width) old x old′ y tt tt p q ∙ swapped-back raw width some groups

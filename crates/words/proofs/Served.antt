@@ -3,7 +3,7 @@ use mathlib.Core.Path.{_≡_, refl}
 use mathlib.Core.Bool.{Bool, true, false, or-true}
 use mathlib.Core.List.{List, [], _∷_}
 use mathlib.Core.Logic.{_⊎_, inl, inr}
-use Prim.Native.Nat.{ℕ}
+use Prim.Native.Nat.{ℕ, _<_, _≤_}
 use native.Mathlib.Omega.{arith}
 use lib.Dec.{eqb}
 use borrow.Author.Tests.{eqb-true, eq-eqb}
@@ -39,4 +39,14 @@ served-eight width e n1 n2 n4 = by (served-one width e)
     by (inr (inl a)) = absurd (n2 a)
     by (inr (inr (inl a))) = absurd (n4 a)
     by (inr (inr (inr (inl a)))) = a
+    by (inr (inr (inr (inr z)))) = absurd z
+
+pub served-some : (width : ℕ) → served width ≡ true → (0 < width) × (width ≤ 8)
+served-some width e = by (served-one width e)
+  where
+    by : OneOf width (1 ∷ 2 ∷ 4 ∷ 8 ∷ []) → (0 < width) × (width ≤ 8)
+    by (inl a) = omega arith
+    by (inr (inl a)) = omega arith
+    by (inr (inr (inl a))) = omega arith
+    by (inr (inr (inr (inl a)))) = omega arith
     by (inr (inr (inr (inr z)))) = absurd z

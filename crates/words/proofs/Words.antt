@@ -4,7 +4,7 @@ use mathlib.Core.Path.{_≡_, refl, ap, _∙_}
 use mathlib.Core.Bool.{Bool, true, false}
 use mathlib.Core.List.{List}
 use Prim.Native.Nat.{ℕ, _+_, _-_, _%_, _<_}
-use native.Mathlib.Nat.{add-zero, one-le-pow, mod-lt, mod-eq-of-lt, mod-add-mod, add-mod-right}
+use native.Mathlib.Nat.{add-zero, div-one, one-le-pow, mod-lt, mod-eq-of-lt, mod-add-mod, add-mod-right}
 use native.Mathlib.Omega.{arith}
 use lib.ListN.{getD}
 use Rattle.words.specs.Digits.{digit}
@@ -31,6 +31,11 @@ word-below s at width le b = value-below 256 width (λ p. getD s (at + turn le w
 pub word-one : (s : List ℕ) (at : ℕ) (le : Bool) → wordAt s at 1 le ≡ getD s at 0
 word-one s at true = rw (add-zero at) (omega arith)
 word-one s at false = rw (add-zero at) (omega arith)
+
+-- and its one digit is that byte
+pub digit-one : (le : Bool) (v : ℕ) → v < 256 → digit 256 (turn le 1 0) v ≡ v
+digit-one true v h = rw div-one (mod-eq-of-lt h)
+digit-one false v h = rw div-one (mod-eq-of-lt h)
 
 -- a word's digits are its bytes
 pub word-digit : (s : List ℕ) (at width : ℕ) (le : Bool) → Bytes s → (p : ℕ) → p < width → digit 256 (turn le width p) (wordAt s at width le) ≡ getD s (at + p) 0

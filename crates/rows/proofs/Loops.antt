@@ -1,0 +1,166 @@
+-- The loops over a row, for every width: their invariants, how a turn keeps each, and what it comes to at the end. Assumes nothing.
+use mathlib.Core.Path.{_≡_, refl, sym, ap, _∙_}
+use mathlib.Core.Bool.{Bool, true, false}
+use mathlib.Core.List.{List}
+use Prim.Native.Nat.{ℕ, zero, suc, _+_, _-_, _*_, _/_, _%_, _≤_, _<_}
+use native.Mathlib.Nat.{mul-mod-left, add-zero, zero-mod, zero-div, add-mod-right, add-div-right, div-add-mod', mod-eq-of-lt, le-div-iff-mul-le, add-mul, one-mul, mul-sub, mul-comm, le-mul-of-pos-right}
+use native.Mathlib.Numerals.{add-one, sub-one}
+use native.Mathlib.Omega.{arith}
+use borrow.Author.Tests.{le-ltb}
+use lib.ListN.{length, getD}
+use Rattle.answer.specs.Table.{filled, stores}
+use Rattle.answer.proofs.Filling.{length-stores, stores-filled, filled-front, filled-already}
+use Rattle.words.specs.Digits.{digit}
+use Rattle.words.specs.Word.{turn, wordAt, modulus, plus, minus}
+use Rattle.words.proofs.Words.{digits-word}
+use Rattle.swaps.proofs.Mirror.{group-room}
+use Rattle.strips.specs.Sample.{Strip, alone, wordOf, sample, difference, storedAt}
+use Rattle.strips.proofs.Sums.{first-alone, sample-alone, sample-later, difference-later}
+use Rattle.strips.proofs.Stored.{stored-byte}
+use Rattle.strips.proofs.Strips.{groups-words}
+use Rattle.strips.proofs.Undo.{sample-below}
+use Rattle.rows.specs.Row.{oneRow, RowFits, Led, Put}
+
+-- the buffer holds the words v, stored, up to `at`
+pub record Upto (v : ℕ → ℕ) (width : ℕ) (out-le : Bool) (raw old : List ℕ) (at : ℕ) (out : List ℕ) : Type 0 where
+  pub inside : at ≤ length raw
+  pub words : at % width ≡ 0
+  pub same : length out ≡ length old
+  pub so-far : out ≡ filled at (storedAt width out-le v) old
+
+pub upto-none : (v : ℕ → ℕ) (width : ℕ) (out-le : Bool) (raw old : List ℕ) → Upto v width out-le raw old 0 old
+upto-none v width out-le raw old = record { inside = omega arith; words = zero-mod width; same = refl; so-far = refl }
+
+module _ (v : ℕ → ℕ) (width : ℕ) (out-le : Bool) (raw old : List ℕ) (at : ℕ) (out : List ℕ) (is : Upto v width out-le raw old at out) where
+  -- `at` in words
+  pub back-at : at / width * width ≡ at
+  back-at = omega (arith, div-add-mod' at width, is .words)
+
+  module _ (whole : length raw % width ≡ 0) (more : at < length raw) where
+    pub turn-room : at + width ≤ length raw
+    turn-room = group-room width (length raw) at whole (is .words) more
+
+    pub in-words : 0 < width → at / width < length raw / width
+    in-words some =
+        rw add-one at (le-div-iff-mul-le {k = width} {x = at / width + 1} {y = length raw} some .1 (omega (arith, turn-room, back-at, add-mul (at / width) 1 width, one-mul width)))
+
+    pub turned : (fits : length raw ≤ length old) (x : ℕ) (new : List ℕ) → x ≡ v (at / width) → Put out at width out-le x new → Upto v width out-le raw old (at + width) new
+    turned fits x new e put = record {
+      inside = turn-room;
+      words = add-mod-right at width ∙ is .words;
+      same = ap length put ∙ length-stores out at width _ ∙ is .same;
+      so-far = put ∙ stores-filled (storedAt width out-le v) _ old out at width (λ p h. rw e (sym (rw back-at at (stored-byte width out-le v (at / width) p h)))) (omega (arith, turn-room)) (is .so-far);
+    }
+
+  pub ended : length raw ≤ at → out ≡ filled (length raw) (storedAt width out-le v) old
+  ended l = let all : at ≡ length raw = omega (arith, is .inside) in rw all at (is .so-far)
+
+-- a row's sample is alone exactly if it is one of the first `channels`
+later : (raw : List ℕ) (channels width n : ℕ) → n < length raw / width → channels ≤ n → alone (oneRow raw channels width) true n ≡ false
+later raw channels width n h d = rw (mod-eq-of-lt h) (le-ltb n channels d)
+
+-- one channel: the sum that is carried into word n
+pub carried : List ℕ → ℕ → Bool → ℕ → ℕ
+carried raw width le zero = 0
+carried raw width le (suc n) = sample (oneRow raw 1 width) true le raw n
+
+pub carried-none : (raw : List ℕ) (width : ℕ) (le : Bool) → carried raw width le (0 / width) ≡ 0
+unfolding carried
+carried-none raw width le = rw (zero-div width)
+
+carried-on : (raw : List ℕ) (width : ℕ) (le : Bool) (n : ℕ) → n < length raw / width → sample (oneRow raw 1 width) true le raw n ≡ plus width (wordOf (oneRow raw 1 width) le raw n) (carried raw width le n)
+unfolding carried
+carried-on raw width le zero h =
+    sample-alone (oneRow raw 1 width) true le raw 0 (first-alone (oneRow raw 1 width) true (omega arith)) ∙ ap (λ (x : ℕ). x % modulus width) (sym (add-zero (wordOf (oneRow raw 1 width) le raw 0)))
+carried-on raw width le (suc n) h =
+    sample-later (oneRow raw 1 width) true le raw (suc n) (omega arith) (later raw 1 width (suc n) h (omega arith))
+        ∙ ap (λ (m : ℕ). plus width (wordOf (oneRow raw 1 width) le raw (suc n)) (sample (oneRow raw 1 width) true le raw m)) (omega arith)
+
+module _ (raw : List ℕ) (width : ℕ) (le out-le : Bool) (old : List ℕ) (at : ℕ) (out : List ℕ) (sum : ℕ) (fits : RowFits raw 1 width old) (is : Upto (sample (oneRow raw 1 width) true le raw) width out-le raw old at out) (carry : sum ≡ carried raw width le (at / width)) where
+  whole-words : length raw % width ≡ 0
+  whole-words = rw one-mul at (fits .groups)
+
+  pub sum-room : at < length raw → at + width ≤ length raw
+  sum-room more = turn-room (sample (oneRow raw 1 width) true le raw) width out-le raw old at out is whole-words more
+
+  -- the sum after a turn is the sample
+  pub summed-on : at < length raw → (x : ℕ) → x ≡ plus width (wordAt raw at width le) sum → x ≡ sample (oneRow raw 1 width) true le raw (at / width)
+  summed-on more x e =
+      let v = sample (oneRow raw 1 width) true le raw in
+      let here : wordOf (oneRow raw 1 width) le raw (at / width) ≡ wordAt raw at width le = ap (λ (k : ℕ). wordAt raw k width le) (back-at v width out-le raw old at out is) in
+      e ∙ rw (carry, ← here) (sym (carried-on raw width le (at / width) (in-words v width out-le raw old at out is whole-words more (fits .wide))))
+
+  pub sum-turned : at < length raw → (x : ℕ) (new : List ℕ) → x ≡ plus width (wordAt raw at width le) sum → Put out at width out-le x new → Upto (sample (oneRow raw 1 width) true le raw) width out-le raw old (at + width) new
+  sum-turned more x new e put = turned (sample (oneRow raw 1 width) true le raw) width out-le raw old at out is whole-words more (fits .room) x new (summed-on more x e) put
+
+  pub sum-carried : at < length raw → (x : ℕ) → x ≡ plus width (wordAt raw at width le) sum → x ≡ carried raw width le ((at + width) / width)
+  unfolding carried
+  sum-carried more x e = rw (add-div-right at (fits .wide), add-one) (summed-on more x e)
+
+-- several channels: word n, with the sample or the word `channels` before it, step bytes back
+module _ (raw : List ℕ) (channels width : ℕ) (le out-le : Bool) (old : List ℕ) (at : ℕ) (out : List ℕ) (v : ℕ → ℕ) (fits : RowFits raw channels width old) (is : Upto v width out-le raw old at out) (past : channels * width ≤ at) where
+  words-whole : length raw % width ≡ 0
+  words-whole = groups-words (length raw) channels width (fits .groups)
+
+  deep-words : channels ≤ at / width
+  deep-words = le-div-iff-mul-le {k = width} (fits .wide) .1 past
+
+  step-back : (at / width - channels) * width ≡ at - channels * width
+  step-back =
+      mul-comm (at / width - channels) width
+          ∙ mul-sub width (at / width) channels
+          ∙ omega (arith, mul-comm width (at / width), mul-comm width channels, back-at v width out-le raw old at out is)
+
+  module _ (more : at < length raw) where
+    pub trail-room : at + width ≤ length raw
+    trail-room = turn-room v width out-le raw old at out is words-whole more
+
+    pub trail-later : alone (oneRow raw channels width) true (at / width) ≡ false
+    trail-later = later raw channels width (at / width) (in-words v width out-le raw old at out is words-whole more (fits .wide)) deep-words
+
+    pub word-here : wordOf (oneRow raw channels width) le raw (at / width) ≡ wordAt raw at width le
+    word-here = ap (λ (k : ℕ). wordAt raw k width le) (back-at v width out-le raw old at out is)
+
+    pub word-before : wordOf (oneRow raw channels width) le raw (at / width - channels) ≡ wordAt raw (at - channels * width) width le
+    word-before = ap (λ (k : ℕ). wordAt raw k width le) step-back
+
+    -- what is read back from the buffer is the word stored there
+    pub stored-before : v (at / width - channels) < modulus width → wordAt out (at - channels * width) width out-le ≡ v (at / width - channels)
+    stored-before small =
+        let wide : width ≤ channels * width = omega (arith, le-mul-of-pos-right {m = channels} width (fits .channel), mul-comm width channels) in
+        digits-word out (at - channels * width) width out-le (v (at / width - channels)) (λ p h.
+            ap (λ (l : List ℕ). getD l (at - channels * width + p) 0) (is .so-far)
+                ∙ filled-front at (storedAt width out-le v) old (at - channels * width + p) (omega arith)
+                ∙ (rw step-back at (stored-byte width out-le v (at / width - channels) p h)))
+            ∙ mod-eq-of-lt small
+
+module _ (raw : List ℕ) (channels width : ℕ) (le out-le : Bool) (old : List ℕ) (at : ℕ) (out : List ℕ) (fits : RowFits raw channels width old) (past : channels * width ≤ at) (more : at < length raw) where
+  pub trail-turned : Upto (sample (oneRow raw channels width) true le raw) width out-le raw old at out → (x : ℕ) (new : List ℕ) → x ≡ plus width (wordAt raw at width le) (wordAt out (at - channels * width) width out-le) → Put out at width out-le x new → Upto (sample (oneRow raw channels width) true le raw) width out-le raw old (at + width) new
+  trail-turned is x new e put =
+      let v = sample (oneRow raw channels width) true le raw in
+      let n = at / width in
+      let small = sample-below (oneRow raw channels width) true le raw (fits .channel) (n - channels) in
+      turned v width out-le raw old at out is (groups-words (length raw) channels width (fits .groups)) more (fits .room) x new
+      (e
+          ∙ rw (stored-before raw channels width le out-le old at out v fits is past more small, ← word-here raw channels width le out-le old at out v fits is past more)
+          (sym (sample-later (oneRow raw channels width) true le raw n (fits .channel) (trail-later raw channels width le out-le old at out v fits is past more))))
+      put
+
+  pub difference-turned : Upto (difference (oneRow raw channels width) true le raw) width out-le raw old at out → (x : ℕ) (new : List ℕ) → x ≡ minus width (wordAt raw at width le) (wordAt raw (at - channels * width) width le) → Put out at width out-le x new → Upto (difference (oneRow raw channels width) true le raw) width out-le raw old (at + width) new
+  difference-turned is x new e put =
+      let v = difference (oneRow raw channels width) true le raw in
+      let n = at / width in
+      turned v width out-le raw old at out is (groups-words (length raw) channels width (fits .groups)) more (fits .room) x new
+      (e
+          ∙ rw (← word-before raw channels width le out-le old at out v fits is past more, ← word-here raw channels width le out-le old at out v fits is past more)
+          (sym (difference-later (oneRow raw channels width) true le raw n (trail-later raw channels width le out-le old at out v fits is past more))))
+      put
+
+-- a row whose first words are written begins past them
+pub led-upto : (v : ℕ → ℕ) (raw : List ℕ) (channels width : ℕ) (out-le : Bool) (out : List ℕ) → Led (storedAt width out-le v) raw channels width out → Upto v width out-le raw out (channels * width) out
+led-upto v raw channels width out-le out led = record {
+  inside = led .step;
+  words = mul-mod-left channels width;
+  same = refl;
+  so-far = sym (filled-already (channels * width) (storedAt width out-le v) out (led .front));
+}

@@ -1,0 +1,80 @@
+-- `rows::sums::sum1` meets its contract: the invariant and its laws are those of every width, proofs/Loops.antt. Assumes nothing.
+use borrow.Author.Needs.{needs}
+use native.Mathlib.Omega.{arith}
+use Prim.Native.Nat.{ℕ, _-_, _/_}
+use mathlib.Core.Bool.{true}
+use mathlib.Core.Path.{_≡_, sym, ap, _∙_}
+use lib.ListN.{length}
+use denote.Ref.{now}
+use Rattle.words.specs.Word.{plus}
+use Rattle.strips.specs.Sample.{sample}
+use Rattle.rows.specs.Row.{oneRow}
+use Rattle.rows.proofs.Loops.{Upto, upto-none, carried, carried-none, sum-room, sum-turned, sum-carried, ended}
+use Rattle.rows.proofs.sums.sum1.Statement.{statement}
+use Rattle.rows.proofs.sums.sum1.Tie as tie
+
+abbrev Inv-loop : tie.InvT-loop
+Inv-loop raw le out-le out₀ sum₀ at₀ out sum at = Upto (sample (oneRow raw 1 1) true le raw) 1 out-le raw out₀ at out × (sum ≡ carried raw 1 le (at / 1))
+
+abbrev μ-loop : tie.MeasureT-loop
+μ-loop raw le out-le out₀ sum₀ at₀ out sum at = length raw - at
+
+loop-holds : tie.Need-loop-holds Inv-loop μ-loop
+loop-holds c = (upto-none _ 1 _ _ _, sym (carried-none _ 1 _))
+
+get1-requires : tie.Need-get1-requires Inv-loop μ-loop
+get1-requires c κs = 
+    let at = c .before in
+    let start = at .before .before .before in
+    sum-room (now (start .args .raw)) 1 (start .args .le) (start .args .out-le) (now (start .args .out)) (at .loop .at) (at .loop .out) (at .loop .sum) (start .pre) (at .loop .inv .0) (at .loop .inv .1) (c .loop-test .taken)
+
+add1-requires : tie.Need-add1-requires Inv-loop μ-loop
+add1-requires c κs = search needs
+
+put1-requires : tie.Need-put1-requires Inv-loop μ-loop
+put1-requires c κs = 
+    let at = c .before .before .before .before in
+    let start = at .before .before .before in
+    omega (arith, sum-room (now (start .args .raw)) 1 (start .args .le) (start .args .out-le) (now (start .args .out)) (at .loop .at) (at .loop .out) (at .loop .sum) (start .pre) (at .loop .inv .0) (at .loop .inv .1) (c .before .before .before .loop-test .taken), at .loop .inv .0 .same, start .pre .room)
+
+add-at : tie.Need-add-at Inv-loop μ-loop
+add-at c = 
+    let at = c .before .before .before .before .before .before .before in
+    let start = at .before .before .before in
+    omega (arith, sum-room (now (start .args .raw)) 1 (start .args .le) (start .args .out-le) (now (start .args .out)) (at .loop .at) (at .loop .out) (at .loop .sum) (start .pre) (at .loop .inv .0) (at .loop .inv .1) (c .before .before .before .before .before .before .loop-test .taken), start .good)
+
+loop-less : tie.Need-loop-less Inv-loop μ-loop
+loop-less c = let more = c .before .before .before .before .before .before .loop-test .taken in omega arith
+
+loop-again : tie.Need-loop-again Inv-loop μ-loop
+loop-again c = 
+    let at = c .before .before .before .before .before .before .before in
+    let start = at .before .before .before in
+    let more = c .before .before .before .before .before .before .loop-test .taken in
+    let e = c .before .before .before .before .add1 .ensures ∙ ap (λ (x : ℕ). plus 1 x (at .loop .sum)) (c .before .before .before .before .before .get1 .ensures) in
+    (sum-turned (now (start .args .raw)) 1 (start .args .le) (start .args .out-le) (now (start .args .out)) (at .loop .at) (at .loop .out) (at .loop .sum) (start .pre) (at .loop .inv .0) (at .loop .inv .1) more _ _ e (c .before .before .put1 .ensures), sum-carried (now (start .args .raw)) 1 (start .args .le) (start .args .out-le) (now (start .args .out)) (at .loop .at) (at .loop .out) (at .loop .sum) (start .pre) (at .loop .inv .0) (at .loop .inv .1) more _ e)
+
+same-length : tie.Need-same-length Inv-loop μ-loop
+same-length c = search needs
+
+returns : tie.Need-returns Inv-loop μ-loop
+returns c = 
+    let at = c .before in
+    let start = at .before .before .before in
+    ended _ 1 _ (now (start .args .raw)) _ (at .loop .at) (at .loop .out) (at .loop .inv .0) (c .loop-test .left)
+
+pub sum1-spec : {M : Type 1} → statement M
+sum1-spec =
+    tie.close
+    (tie.spec
+    Inv-loop
+    μ-loop
+    loop-holds
+    get1-requires
+    add1-requires
+    put1-requires
+    add-at
+    loop-less
+    loop-again
+    same-length
+    returns)

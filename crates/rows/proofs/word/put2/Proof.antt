@@ -1,0 +1,68 @@
+-- `rows::word::put2` meets its contract: in each byte order the stored bytes are the number's digits. Assumes nothing.
+use borrow.Author.Needs.{needs}
+use native.Mathlib.Nat.{add-zero, div-one}
+use native.Mathlib.Omega.{arith}
+use lib.ListN.{length-set}
+use Rattle.rows.proofs.word.put2.Statement.{statement}
+use Rattle.rows.proofs.word.put2.Tie as tie
+
+cast-out : tie.Need-cast-out
+cast-out c = search needs
+
+slice-write-out : tie.Need-slice-write-out
+slice-write-out c = omega arith
+
+cast-out-2 : tie.Need-cast-out-2
+cast-out-2 c = search needs
+
+add-out : tie.Need-add-out
+add-out c = search needs
+
+slice-write-out-2 : tie.Need-slice-write-out-2
+slice-write-out-2 c = simp length-set (omega arith)
+
+cast-out-3 : tie.Need-cast-out-3
+cast-out-3 c = search needs
+
+slice-write-out-3 : tie.Need-slice-write-out-3
+slice-write-out-3 c = omega arith
+
+cast-out-4 : tie.Need-cast-out-4
+cast-out-4 c = search needs
+
+add-out-2 : tie.Need-add-out-2
+add-out-2 c = search needs
+
+slice-write-out-4 : tie.Need-slice-write-out-4
+slice-write-out-4 c = simp length-set (omega arith)
+
+same-length : tie.Need-same-length
+same-length c = simp length-set
+
+returns : tie.Need-returns
+returns c = let args = c .before .args in rw (c .if1 .taken, add-zero (args .at), div-one (args .v))
+
+same-length-2 : tie.Need-same-length-2
+same-length-2 c = simp length-set
+
+returns-2 : tie.Need-returns-2
+returns-2 c = let args = c .before .args in rw (c .if1 .left, add-zero (args .at), div-one (args .v))
+
+pub put2-spec : {M : Type 1} → statement M
+put2-spec =
+    tie.close
+    (tie.spec
+    cast-out
+    slice-write-out
+    cast-out-2
+    add-out
+    slice-write-out-2
+    cast-out-3
+    slice-write-out-3
+    cast-out-4
+    add-out-2
+    slice-write-out-4
+    same-length
+    returns
+    same-length-2
+    returns-2)

@@ -1,0 +1,70 @@
+-- What is promised of one row: words in another byte order, a predicted row read, a row predicted. A row is a strip of one row, so the
+-- definitions are the strip's own. Assumes nothing.
+use Prim.{Unit}
+use Prim.Native.Nat.{ℕ, _*_, _%_, _≤_, _<_}
+use mathlib.Core.Path.{_≡_}
+use mathlib.Core.Bool.{Bool, true, not}
+use mathlib.Core.List.{List, [], _∷_}
+use lib.ListN.{length, take}
+use lib.Dec.{eqb, ltb}
+use Rattle.answer.specs.Outcome.{Fault, unless, unsupported, invalid, outputTooSmall, Promise, doneOutcome}
+use Rattle.answer.specs.Table.{table, filled, stores}
+use Rattle.answer.specs.declared.Done.{Done}
+use Rattle.words.specs.Digits.{digit}
+use Rattle.words.specs.Word.{turn, wordAt}
+use Rattle.words.specs.Promises.{served}
+use Rattle.strips.specs.Sample.{Strip, strip, sample, difference, storedAt}
+use Rattle.strips.specs.Promises.{Converted, Forwarded}
+
+-- words in another byte order
+abbrev pub reorderFaults : List ℕ → ℕ → List ℕ → List Fault
+reorderFaults raw width old =
+    unsupported (not (served width)) ∷ invalid (not (eqb (length raw % width) 0)) ∷ outputTooSmall (ltb (length old) (length raw)) ∷ []
+
+abbrev pub wordsOf : ℕ → Bool → List ℕ → ℕ → ℕ
+wordsOf width le raw n = wordAt raw (n * width) width le
+
+abbrev pub Reordered : List ℕ → ℕ → Bool → Bool → List ℕ → Done → List ℕ → Type 0
+Reordered raw width le out-le old answer new =
+    Promise (unless (reorderFaults raw width old) tt) (table (length raw) (storedAt width out-le (wordsOf width le raw))) old (doneOutcome answer) new
+
+-- a row as a strip
+abbrev pub oneRow : List ℕ → ℕ → ℕ → Strip
+oneRow raw channels width = strip (length raw) channels width
+
+abbrev pub RowUndone : List ℕ → ℕ → ℕ → Bool → Bool → List ℕ → Done → List ℕ → Type 0
+RowUndone raw channels width le out-le old answer new = Converted raw (oneRow raw channels width) true le out-le old answer new
+
+abbrev pub RowPredicted : List ℕ → ℕ → ℕ → Bool → Bool → List ℕ → Done → List ℕ → Type 0
+RowPredicted raw channels width le out-le old answer new = Forwarded raw (oneRow raw channels width) true le out-le old answer new
+
+-- what the private loops need of a row, and what they do
+pub record RowFits (raw : List ℕ) (channels width : ℕ) (out : List ℕ) : Type 0 where
+  pub channel : 0 < channels
+  pub wide : 0 < width
+  pub groups : length raw % (channels * width) ≡ 0
+  pub room : length raw ≤ length out
+
+abbrev pub ReorderedInto : List ℕ → ℕ → Bool → Bool → List ℕ → List ℕ → Type 0
+ReorderedInto raw width le out-le old new = new ≡ filled (length raw) (storedAt width out-le (wordsOf width le raw)) old
+
+abbrev pub undoneAt : List ℕ → ℕ → ℕ → Bool → Bool → ℕ → ℕ
+undoneAt raw channels width le out-le = storedAt width out-le (sample (oneRow raw channels width) true le raw)
+
+abbrev pub predictedAt : List ℕ → ℕ → ℕ → Bool → Bool → ℕ → ℕ
+predictedAt raw channels width le out-le = storedAt width out-le (difference (oneRow raw channels width) true le raw)
+
+abbrev pub Put : List ℕ → ℕ → ℕ → Bool → ℕ → List ℕ → Type 0
+Put old at width le v new = new ≡ stores old at width (λ p. digit 256 (turn le width p) v)
+
+abbrev pub UndoneInto : List ℕ → ℕ → ℕ → Bool → Bool → List ℕ → List ℕ → Type 0
+UndoneInto raw channels width le out-le old new = new ≡ filled (length raw) (undoneAt raw channels width le out-le) old
+
+abbrev pub PredictedInto : List ℕ → ℕ → ℕ → Bool → Bool → List ℕ → List ℕ → Type 0
+PredictedInto raw channels width le out-le old new = new ≡ filled (length raw) (predictedAt raw channels width le out-le) old
+
+-- a row whose first `channels` words are written already
+pub record Led (f : ℕ → ℕ) (raw : List ℕ) (channels width : ℕ) (out : List ℕ) : Type 0 where
+  pub fits : RowFits raw channels width out
+  pub step : channels * width ≤ length raw
+  pub front : take (channels * width) out ≡ table (channels * width) f

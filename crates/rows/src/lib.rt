@@ -1,0 +1,4 @@
+mod differences;
+mod sums;
+mod trails;
+mod word;

@@ -1,0 +1,5 @@
+pub mod Sums
+pub mod Stored
+pub mod Strips
+pub mod Rows
+pub mod Undo
