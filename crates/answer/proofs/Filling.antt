@@ -1,14 +1,14 @@
 -- Tables, and a buffer that a loop fills from the front: its first i elements are the table's, the rest are as they were.
 -- Every loop that writes has this invariant; a turn that stores several elements cites `stores-filled`. Assumes nothing.
 use mathlib.Core.Path.{_≡_, refl, sym, ap, _∙_}
-use mathlib.Core.List.{List, [], _∷_, _++_, append-assoc}
+use mathlib.Core.List.{List, [], _∷_, _++_, append-assoc, append-nil}
 use Prim.Native.Nat.{ℕ, zero, suc, _+_, _-_, _<_, _≤_}
-use native.Mathlib.Nat.{add-zero}
+use native.Mathlib.Nat.{add-zero, add-suc}
 use native.Mathlib.Numerals.{add-one}
 use native.Mathlib.Decide.{decLt}
 use native.Mathlib.Omega.{arith}
-use lib.ListN.{length, getD, take, drop, set, take-append-drop, length-append, length-drop, length-set, List·getD-append}
-use lib.Seq.{drop-cons, drop-drop, drop-append-add, set-at, take-at, getD-at, getD-append-add, getD-drop, ext-getD}
+use lib.ListN.{length, getD, take, drop, set, take-append-drop, drop-of-length-le, length-take, length-append, length-drop, length-set, List·getD-append}
+use lib.Seq.{drop-cons, drop-drop, drop-append-add, set-at, take-at, drop-at, getD-take, getD-at, getD-append-add, getD-drop, ext-getD}
 use Rattle.answer.specs.Table.{table, filled, stores}
 
 pub length-table : (n : ℕ) (f : ℕ → ℕ) → length (table n f) ≡ n
@@ -82,6 +82,37 @@ filled-same i f g old e = ap (λ (l : List ℕ). l ++ drop i old) (table-same i 
 
 pub filled-take : (i : ℕ) (f : ℕ → ℕ) (old : List ℕ) → take i (filled i f old) ≡ table i f
 filled-take i f old = take-at (table i f) (drop i old) i (length-table i f)
+
+-- a table in two pieces
+pub table-join : (n m : ℕ) (f : ℕ → ℕ) → table n f ++ table m (λ k. f (n + k)) ≡ table (n + m) f
+table-join n zero f = append-nil (table n f) ∙ ap (λ (k : ℕ). table k f) (sym (add-zero n))
+table-join n (suc m) f =
+    sym (append-assoc (table n f) (table m (λ k. f (n + k))) (f (n + m) ∷ []))
+        ∙ ap (λ (l : List ℕ). l ++ (f (n + m) ∷ [])) (table-join n m f)
+        ∙ ap (λ (k : ℕ). table k f) (sym (add-suc n m))
+
+-- a buffer that is filled to its end holds the table alone
+pub filled-all : (n : ℕ) (f : ℕ → ℕ) (old : List ℕ) → length old ≤ n → filled n f old ≡ table n f
+filled-all n f old h = rw (drop-of-length-le old h) (append-nil (table n f))
+
+-- the part of a list from a to e, and a buffer in which that part was filled
+abbrev pub part : ℕ → ℕ → List ℕ → List ℕ
+part a e l = take (e - a) (drop a l)
+
+pub length-part : (a e : ℕ) (l : List ℕ) → a ≤ e → e ≤ length l → length (part a e l) ≡ e - a
+length-part a e l h k = simp (length-take, length-drop) (omega arith)
+
+pub part-at : (a e : ℕ) (l : List ℕ) (i : ℕ) → i < e - a → getD (part a e l) i 0 ≡ getD l (a + i) 0
+part-at a e l i h = getD-take (e - a) (drop a l) i 0 h ∙ getD-drop a l i 0
+
+pub part-filled : (f : ℕ → ℕ) (a e : ℕ) (old out new : List ℕ) → a ≤ e → out ≡ filled a f old → new ≡ table (e - a) (λ k. f (a + k)) → take a out ++ (new ++ drop (e - a) (drop a out)) ≡ filled e f old
+part-filled f a e old out new h s is =
+    let whole-way : a + (e - a) ≡ e = omega arith in
+    let front : take a out ≡ table a f = ap (take a) s ∙ filled-take a f old in
+    let past : drop (e - a) (drop a out) ≡ drop e old =
+        ap (λ (l : List ℕ). drop (e - a) (drop a l)) s ∙ ap (drop (e - a)) (drop-at (table a f) (drop a old) a (length-table a f)) ∙ drop-drop (e - a) a old ∙ ap (λ (k : ℕ). drop k old) whole-way in
+    rw (front, past, is)
+    (sym (append-assoc (table a f) (table (e - a) (λ k. f (a + k))) (drop e old)) ∙ ap (λ (l : List ℕ). l ++ drop e old) (table-join a (e - a) f ∙ ap (λ (k : ℕ). table k f) whole-way))
 
 -- a buffer filled to the table's end is what a promise leaves
 pub whole : (n : ℕ) (f : ℕ → ℕ) (old : List ℕ) → filled n f old ≡ table n f ++ drop (length (table n f)) old

@@ -4,7 +4,7 @@ use Prim.{Unit}
 use Prim.Native.Nat.{ℕ, zero, suc, _≤_}
 use mathlib.Core.Path.{_≡_, refl, sym, ap, _∙_}
 use mathlib.Core.Bool.{Bool, true, false}
-use mathlib.Core.List.{List, [], _∷_}
+use mathlib.Core.List.{List, [], _∷_, _++_}
 use mathlib.Core.Logic.{_⊎_, inl, inr}
 use native.Mathlib.Omega.{arith}
 use lib.ListN.{length, take, drop, length-append, length-drop}
@@ -93,6 +93,23 @@ done-value fs a b e = let d = sound-done a (done-sound fs a b e) in cc
 pub refused-same : {A B : Type 0} (fs : List Fault) (a : A) (b : B) (n : ℕ) → unless fs a ≡ refused n → unless fs b ≡ refused n
 refused-same fs a b n e = first-refused b (refused-first fs a n e)
 
+-- faults after faults
+pub first-more : {fs : List Fault} {n : ℕ} (gs : List Fault) → First fs n → First (fs ++ gs) n
+first-more gs (here t) = here t
+first-more gs (later t r) = later t (first-more gs r)
+
+pub sound-then : {fs gs : List Fault} {n : ℕ} → Sound fs → First gs n → First (fs ++ gs) n
+sound-then none r = r
+sound-then (next t s) r = later t (sound-then s r)
+
+pub sound-more : {fs gs : List Fault} → Sound fs → Sound gs → Sound (fs ++ gs)
+sound-more none r = r
+sound-more (next t s) r = next t (sound-more s r)
+
+-- what an answer that was handed on says of its faults
+pub refused-told : {A : Type 0} (fs : List Fault) (a : A) (r : Refusal) → refused (number r) ≡ unless fs a → First fs (number r)
+refused-told fs a r e = refused-first fs a (number r) (sym e)
+
 -- how a promise with no buffer is met
 pub refusing : {A : Type 0} (fs : List Fault) (a : A) {n : ℕ} → First fs n → refused n ≡ unless fs a
 refusing fs a r = sym (first-refused a r)
@@ -112,6 +129,12 @@ finishes {A} fs a n f old new s e =
 -- what a call without a fault leaves
 pub finished : {A : Type 0} {answer : Outcome A} (fs : List Fault) (a : A) (n : ℕ) (f : ℕ → ℕ) (old new : List ℕ) → Sound fs → Promise (unless fs a) (table n f) old answer new → new ≡ filled n f old
 finished {A} fs a n f old new s p = p .leaves ∙ ap (λ (o : Outcome A). after o (table n f) old) (sound-done a s) ∙ sym (whole n f old)
+
+-- a call without a fault that hands on another's: the promise of one is that of the other, where both write the same
+pub hands-on : {A : Type 0} (fs gs : List Fault) (a : A) (w v old new : List ℕ) (answer : Outcome A) → Sound fs → Sound gs → w ≡ v → Promise (unless fs a) w old answer new → Promise (unless gs a) v old answer new
+hands-on {A} fs gs a w v old new answer s r e p =
+    let same : unless fs a ≡ unless gs a = sound-done a s ∙ sym (sound-done a r) in
+    record { answers = p .answers ∙ same; leaves = p .leaves ∙ ap (λ (o : Outcome A). after o w old) same ∙ ap (λ (x : List ℕ). after (unless gs a) x old) e }
 
 pub sound-here : {f : Fault} {fs : List Fault} → Sound (f ∷ fs) → f .found ≡ false
 sound-here (next t r) = t

@@ -1,32 +1,17 @@
--- What is promised of one row: words in another byte order, a predicted row read, a row predicted. A row is a strip of one row, so the
+-- What is promised of one row: a predicted row read, and a row predicted. A row is a strip of one row, so the
 -- definitions are the strip's own. Assumes nothing.
-use Prim.{Unit}
 use Prim.Native.Nat.{ℕ, _*_, _%_, _≤_, _<_}
 use mathlib.Core.Path.{_≡_}
-use mathlib.Core.Bool.{Bool, true, not}
-use mathlib.Core.List.{List, [], _∷_}
+use mathlib.Core.Bool.{Bool, true}
+use mathlib.Core.List.{List}
 use lib.ListN.{length, take}
-use lib.Dec.{eqb, ltb}
-use Rattle.answer.specs.Outcome.{Fault, unless, unsupported, invalid, outputTooSmall, Promise, doneOutcome}
 use Rattle.answer.specs.Table.{table, filled, stores}
 use Rattle.answer.specs.declared.Done.{Done}
 use Rattle.words.specs.Digits.{digit}
-use Rattle.words.specs.Word.{turn, wordAt}
-use Rattle.words.specs.Promises.{served}
+use Rattle.words.specs.Word.{turn}
 use Rattle.strips.specs.Sample.{Strip, strip, sample, difference, storedAt}
-use Rattle.strips.specs.Promises.{Converted, Forwarded}
-
--- words in another byte order
-abbrev pub reorderFaults : List ℕ → ℕ → List ℕ → List Fault
-reorderFaults raw width old =
-    unsupported (not (served width)) ∷ invalid (not (eqb (length raw % width) 0)) ∷ outputTooSmall (ltb (length old) (length raw)) ∷ []
-
-abbrev pub wordsOf : ℕ → Bool → List ℕ → ℕ → ℕ
-wordsOf width le raw n = wordAt raw (n * width) width le
-
-abbrev pub Reordered : List ℕ → ℕ → Bool → Bool → List ℕ → Done → List ℕ → Type 0
-Reordered raw width le out-le old answer new =
-    Promise (unless (reorderFaults raw width old) tt) (table (length raw) (storedAt width out-le (wordsOf width le raw))) old (doneOutcome answer) new
+use Rattle.words.specs.Promises.{served}
+use Rattle.strips.specs.Promises.{Converted, Forwarded, wordsOf}
 
 -- a row as a strip
 abbrev pub oneRow : List ℕ → ℕ → ℕ → Strip
@@ -44,9 +29,6 @@ pub record RowFits (raw : List ℕ) (channels width : ℕ) (out : List ℕ) : Ty
   pub wide : 0 < width
   pub groups : length raw % (channels * width) ≡ 0
   pub room : length raw ≤ length out
-
-abbrev pub ReorderedInto : List ℕ → ℕ → Bool → Bool → List ℕ → List ℕ → Type 0
-ReorderedInto raw width le out-le old new = new ≡ filled (length raw) (storedAt width out-le (wordsOf width le raw)) old
 
 abbrev pub undoneAt : List ℕ → ℕ → ℕ → Bool → Bool → ℕ → ℕ
 undoneAt raw channels width le out-le = storedAt width out-le (sample (oneRow raw channels width) true le raw)
@@ -68,3 +50,19 @@ pub record Led (f : ℕ → ℕ) (raw : List ℕ) (channels width : ℕ) (out : 
   pub fits : RowFits raw channels width out
   pub step : channels * width ≤ length raw
   pub front : take (channels * width) out ≡ table (channels * width) f
+
+-- what is known of a row past every refusal
+pub record RowServed (raw : List ℕ) (channels width : ℕ) (out : List ℕ) : Type 0 where
+  pub takes : served width ≡ true
+  pub fits : RowFits raw channels width out
+  pub step : channels * width ≤ length raw
+
+-- the first `step` bytes, which hold whole words, in the asked order
+pub record LeadFits (raw : List ℕ) (step width : ℕ) (out : List ℕ) : Type 0 where
+  pub takes : served width ≡ true
+  pub words : step % width ≡ 0
+  pub within : step ≤ length raw
+  pub room : step ≤ length out
+
+abbrev pub LedInto : List ℕ → ℕ → ℕ → Bool → Bool → List ℕ → List ℕ → Type 0
+LedInto raw step width le out-le old new = new ≡ filled step (storedAt width out-le (wordsOf width le raw)) old

@@ -2,3 +2,120 @@ mod differences;
 mod sums;
 mod trails;
 mod word;
+
+use answer::Done;
+use answer::Refusal;
+ghost use mathlib.Core.Path.{_≡_};
+ghost use mathlib.Core.Bool.{true};
+ghost use Prim.Native.Nat.{_≤_, _%_};
+ghost use lib.ListN.{length};
+ghost use Rattle.words.specs.Promises.{served};
+ghost use Rattle.rows.specs.Row.{
+    RowFits, RowServed, Led, LeadFits, LedInto, undoneAt, predictedAt, UndoneInto, PredictedInto, RowUndone, RowPredicted,
+};
+
+fn sum(raw: &[u8], width: usize, le: bool, out_le: bool, out: &mut [u8])
+    requires { ⌜ (served width ≡ true) × RowFits (now raw) 1 width (now out) ⌝ }
+    ensures { λ r. ⌜ UndoneInto (now (raw .entry)) 1 width le «out_le» (now (out .entry)) (now (out .exit)) ⌝ }
+{
+    if width == 1 {
+        sums::sum1(raw, le, out_le, out)
+    } else if width == 2 {
+        sums::sum2(raw, le, out_le, out)
+    } else if width == 4 {
+        sums::sum4(raw, le, out_le, out)
+    } else {
+        sums::sum8(raw, le, out_le, out)
+    }
+}
+
+fn trail(raw: &[u8], channels: usize, width: usize, le: bool, out_le: bool, out: &mut [u8])
+    requires { ⌜ (served width ≡ true) × Led (undoneAt (now raw) channels width le «out_le») (now raw) channels width (now out) ⌝ }
+    ensures { λ r. ⌜ UndoneInto (now (raw .entry)) channels width le «out_le» (now (out .entry)) (now (out .exit)) ⌝ }
+{
+    if width == 1 {
+        trails::trail1(raw, channels, le, out_le, out)
+    } else if width == 2 {
+        trails::trail2(raw, channels, le, out_le, out)
+    } else if width == 4 {
+        trails::trail4(raw, channels, le, out_le, out)
+    } else {
+        trails::trail8(raw, channels, le, out_le, out)
+    }
+}
+
+fn difference(raw: &[u8], channels: usize, width: usize, le: bool, out_le: bool, out: &mut [u8])
+    requires { ⌜ (served width ≡ true) × Led (predictedAt (now raw) channels width le «out_le») (now raw) channels width (now out) ⌝ }
+    ensures { λ r. ⌜ PredictedInto (now (raw .entry)) channels width le «out_le» (now (out .entry)) (now (out .exit)) ⌝ }
+{
+    if width == 1 {
+        differences::difference1(raw, channels, le, out_le, out)
+    } else if width == 2 {
+        differences::difference2(raw, channels, le, out_le, out)
+    } else if width == 4 {
+        differences::difference4(raw, channels, le, out_le, out)
+    } else {
+        differences::difference8(raw, channels, le, out_le, out)
+    }
+}
+
+// The first words of a row, which stand for themselves.
+fn lead(raw: &[u8], step: usize, width: usize, le: bool, out_le: bool, out: &mut [u8])
+    requires { ⌜ LeadFits (now raw) step width (now out) ⌝ }
+    ensures { λ r. ⌜ LedInto (now (raw .entry)) step width le «out_le» (now (out .entry)) (now (out .exit)) ⌝ }
+{
+    let start: usize = 0;
+    strips::reorder(&raw[start..step], width, le, out_le, &mut out[start..step]);
+}
+
+fn undo(raw: &[u8], channels: usize, width: usize, le: bool, out_le: bool, out: &mut [u8])
+    requires { ⌜ RowServed (now raw) channels width (now out) ⌝ }
+    ensures { λ r. ⌜ UndoneInto (now (raw .entry)) channels width le «out_le» (now (out .entry)) (now (out .exit)) ⌝ }
+{
+    if channels == 1 {
+        sum(raw, width, le, out_le, out)
+    } else {
+        lead(raw, channels * width, width, le, out_le, out);
+        trail(raw, channels, width, le, out_le, out)
+    }
+}
+
+fn predict(raw: &[u8], channels: usize, width: usize, le: bool, out_le: bool, out: &mut [u8])
+    requires { ⌜ RowServed (now raw) channels width (now out) ⌝ }
+    ensures { λ r. ⌜ PredictedInto (now (raw .entry)) channels width le «out_le» (now (out .entry)) (now (out .exit)) ⌝ }
+{
+    lead(raw, channels * width, width, le, out_le, out);
+    difference(raw, channels, width, le, out_le, out)
+}
+
+// The samples of one predicted row.
+pub fn undo_row(raw: &[u8], channels: usize, width: usize, le: bool, out_le: bool, out: &mut [u8]) -> Done
+    ensures { λ r. ⌜ RowUndone (now (raw .entry)) channels width le «out_le» (now (out .entry)) r (now (out .exit)) ⌝ }
+{
+    match strips::check_strip(raw.len(), raw.len(), channels, width) {
+        Done::Refused(k) => Done::Refused(k),
+        Done::Done => {
+            if out.len() < raw.len() {
+                return Done::Refused(Refusal::OutputTooSmall);
+            }
+            undo(raw, channels, width, le, out_le, out);
+            Done::Done
+        }
+    }
+}
+
+// One row, predicted.
+pub fn predict_row(raw: &[u8], channels: usize, width: usize, le: bool, out_le: bool, out: &mut [u8]) -> Done
+    ensures { λ r. ⌜ RowPredicted (now (raw .entry)) channels width le «out_le» (now (out .entry)) r (now (out .exit)) ⌝ }
+{
+    match strips::check_strip(raw.len(), raw.len(), channels, width) {
+        Done::Refused(k) => Done::Refused(k),
+        Done::Done => {
+            if out.len() < raw.len() {
+                return Done::Refused(Refusal::OutputTooSmall);
+            }
+            predict(raw, channels, width, le, out_le, out);
+            Done::Done
+        }
+    }
+}

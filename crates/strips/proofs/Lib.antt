@@ -3,3 +3,5 @@ pub mod Stored
 pub mod Strips
 pub mod Rows
 pub mod Undo
+pub mod Orders
+pub mod Parts

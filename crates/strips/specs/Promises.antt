@@ -2,13 +2,14 @@
 use Prim.{Unit}
 use Prim.Native.Nat.{ℕ, _*_, _%_}
 use mathlib.Core.Path.{_≡_}
-use mathlib.Core.Bool.{Bool, not}
+use mathlib.Core.Bool.{Bool, true, false, not}
 use mathlib.Core.List.{List, [], _∷_, _++_}
 use lib.ListN.{length}
 use lib.Dec.{eqb, ltb}
 use Rattle.answer.specs.Outcome.{Fault, unless, unsupported, invalid, outputTooSmall, Promise, doneOutcome}
 use Rattle.answer.specs.Table.{table}
 use Rattle.answer.specs.declared.Done.{Done}
+use Rattle.words.specs.Word.{wordAt}
 use Rattle.words.specs.Promises.{served}
 use Rattle.strips.specs.Sample.{Strip, sample, difference, storedAt}
 
@@ -37,3 +38,20 @@ Converted raw g predict le out-le old answer new =
 abbrev pub Forwarded : List ℕ → Strip → Bool → Bool → Bool → List ℕ → Done → List ℕ → Type 0
 Forwarded raw g predict le out-le old answer new =
     Promise (unless (convertFaults raw g old) tt) (table (length raw) (storedAt (g .width) out-le (difference g predict le raw))) old (doneOutcome answer) new
+
+-- whether two byte orders differ
+abbrev pub apart : Bool → Bool → Bool
+apart true b = not b
+apart false b = b
+
+-- the words of a strip in another byte order
+abbrev pub reorderFaults : List ℕ → ℕ → List ℕ → List Fault
+reorderFaults raw width old =
+    unsupported (not (served width)) ∷ invalid (not (eqb (length raw % width) 0)) ∷ outputTooSmall (ltb (length old) (length raw)) ∷ []
+
+abbrev pub wordsOf : ℕ → Bool → List ℕ → ℕ → ℕ
+wordsOf width le raw n = wordAt raw (n * width) width le
+
+abbrev pub Reordered : List ℕ → ℕ → Bool → Bool → List ℕ → Done → List ℕ → Type 0
+Reordered raw width le out-le old answer new =
+    Promise (unless (reorderFaults raw width old) tt) (table (length raw) (storedAt width out-le (wordsOf width le raw))) old (doneOutcome answer) new

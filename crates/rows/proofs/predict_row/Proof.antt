@@ -1,0 +1,57 @@
+-- `rows::predict_row` meets its promise: the strip check's faults first, then the room. Assumes nothing.
+use borrow.Author.Needs.{needs}
+use borrow.Author.Tests.{lt-ltb, le-ltb}
+use mathlib.Core.Path.{_≡_, ap, _∙_, sym}
+use lib.ListN.{length}
+use denote.Ref.{now}
+use Rattle.answer.specs.Outcome.{here, next, none, Sound, doneOutcome}
+use Rattle.answer.proofs.Promised.{refuses, finishes, done-sound, first-more, sound-then, sound-more, refused-told}
+use Rattle.strips.specs.Promises.{stripFaults, convertFaults}
+use Rattle.rows.specs.Row.{oneRow, predictedAt}
+use Rattle.rows.proofs.Checked.{row-served}
+use Rattle.rows.proofs.predict_row.Statement.{statement}
+use Rattle.rows.proofs.predict_row.Tie as tie
+
+check-strip-requires : tie.Need-check-strip-requires
+check-strip-requires c κs = search needs
+
+enum-known-k : tie.Need-enum-known-k
+enum-known-k c = search needs
+
+enum-told : tie.Need-enum-told
+enum-told c = search needs
+
+-- the check found no fault
+checked : (c : tie.After-enum-told) → let args = c .before .before .before .before .before .args in Sound (stripFaults (length (now (args .raw))) (oneRow (now (args .raw)) (args .channels) (args .width)))
+checked c =
+    let args = c .before .before .before .before .before .args in
+    done-sound (stripFaults (length (now (args .raw))) (oneRow (now (args .raw)) (args .channels) (args .width))) tt tt (sym (c .before .before .check-strip .ensures) ∙ ap doneOutcome (c .enum-told .given .1))
+
+returns : tie.Need-returns
+returns c =
+    let args = c .before .before .before .before .before .before .args in
+    refuses (convertFaults (now (args .raw)) (oneRow (now (args .raw)) (args .channels) (args .width)) (now (args .out))) tt _ _ (sound-then (checked (c .before)) (here (lt-ltb _ _ (c .if1 .taken))))
+
+predict-requires : tie.Need-predict-requires
+predict-requires c κs =
+    let args = c .before .before .before .before .before .before .before .args in
+    row-served (now (args .raw)) (args .channels) (args .width) _ (checked (c .before .before)) (c .before .if1 .left)
+
+returns-2 : tie.Need-returns-2
+returns-2 c =
+    let args = c .before .before .before .before .before .before .args in
+    let check = stripFaults (length (now (args .raw))) (oneRow (now (args .raw)) (args .channels) (args .width)) in
+    refuses (convertFaults (now (args .raw)) (oneRow (now (args .raw)) (args .channels) (args .width)) (now (args .out))) tt _ _
+    (first-more _ (refused-told check tt (c .before .k .given .0 .0) (ap doneOutcome (sym (c .before .k .given .1)) ∙ c .before .before .before .check-strip .ensures)))
+
+same-length : tie.Need-same-length
+same-length c = search needs
+
+returns-3 : tie.Need-returns-3
+returns-3 c =
+    let args = c .before .before .before .before .before .before .before .before .before .before .args in
+    finishes (convertFaults (now (args .raw)) (oneRow (now (args .raw)) (args .channels) (args .width)) (now (args .out))) tt (length (now (args .raw))) (predictedAt (now (args .raw)) (args .channels) (args .width) (args .le) (args .out-le)) _ _
+    (sound-more (checked (c .before .before .before .before .before)) (next (le-ltb _ _ (c .before .before .before .before .if1 .left)) none)) (c .before .before .predict .ensures)
+
+pub predict-row-spec : {M : Type 1} → statement M
+predict-row-spec = tie.close (tie.spec check-strip-requires enum-known-k enum-told returns predict-requires returns-2 same-length returns-3)

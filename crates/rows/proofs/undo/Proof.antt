@@ -1,0 +1,48 @@
+-- `rows::undo` meets its contract: one channel by its running sum, several from the row's first words on. Assumes nothing.
+use borrow.Author.Needs.{needs}
+use native.Mathlib.Nat.{mul-mod-left}
+use native.Mathlib.Omega.{arith}
+use denote.Ref.{now}
+use Rattle.words.specs.Word.{Bytes}
+use Rattle.rows.specs.Row.{undoneAt}
+use Rattle.rows.proofs.Leading.{first-undone, goes-on, done-on}
+use Rattle.rows.proofs.undo.Statement.{statement}
+use Rattle.rows.proofs.undo.Tie as tie
+
+bytes : (c : tie.After-shared-slice-known) → Bytes (now (c .before .args .raw))
+bytes c i = omega (arith, c .shared-slice-known .given i)
+
+sum-requires : tie.Need-sum-requires
+sum-requires c κs = let start = c .before .before .before .before in (start .pre .takes, rw (c .before .if1 .taken) at (start .pre .fits))
+
+mul-lead : tie.Need-mul-lead
+mul-lead c = let start = c .before .before .before in omega (arith, start .pre .step, start .good)
+
+lead-requires : tie.Need-lead-requires
+lead-requires c κs =
+    let start = c .before .before .before .before in
+    record { takes = start .pre .takes; words = mul-mod-left (start .args .channels) (start .args .width); within = start .pre .step; room = omega (arith, start .pre .step, start .pre .fits .room) }
+
+trail-requires : tie.Need-trail-requires
+trail-requires c κs =
+    let start-known = c .before .before .before .before .before .before .before in
+    let start = start-known .before in
+    (start .pre .takes, goes-on (undoneAt (now (start .args .raw)) (start .args .channels) (start .args .width) (start .args .le) (start .args .out-le)) (now (start .args .raw)) (start .args .channels) (start .args .width) (start .args .le) (start .args .out-le) (now (start .args .out)) _ (start .pre) (λ k h. first-undone (now (start .args .raw)) (bytes start-known) (start .args .channels) (start .args .width) (start .pre .fits .wide) (start .args .le) (start .args .out-le) k h) (c .before .before .before .lead .ensures))
+
+same-length : tie.Need-same-length
+same-length c = search needs
+
+returns : tie.Need-returns
+returns c = rw (c .before .before .before .before .if1 .taken) (c .before .before .sum .ensures)
+
+same-length-2 : tie.Need-same-length-2
+same-length-2 c = search needs
+
+returns-2 : tie.Need-returns-2
+returns-2 c =
+    let start-known = c .before .before .before .before .before .before .before .before .before .before in
+    let start = start-known .before in
+    done-on (undoneAt (now (start .args .raw)) (start .args .channels) (start .args .width) (start .args .le) (start .args .out-le)) (now (start .args .raw)) (start .args .channels) (start .args .width) (start .args .le) (start .args .out-le) (now (start .args .out)) _ (start .pre) (λ k h. first-undone (now (start .args .raw)) (bytes start-known) (start .args .channels) (start .args .width) (start .pre .fits .wide) (start .args .le) (start .args .out-le) k h) (c .before .before .before .before .before .before .lead .ensures) _ (c .before .before .trail .ensures)
+
+pub undo-spec : {M : Type 1} → statement M
+undo-spec = tie.close (tie.spec sum-requires mul-lead lead-requires trail-requires same-length returns same-length-2 returns-2)
