@@ -69,7 +69,7 @@ filled-on i n f old h =
     let rest : n ≡ length (table i f) + (n - i) = omega (arith, length-table i f) in
     let end : i + (n - i) ≡ n = omega arith in
     let past : drop n (filled i f old) ≡ drop n old =
-        ap (λ (m : ℕ). drop m (filled i f old)) rest ∙ drop-append-add (table i f) (drop i old) (n - i) ∙ drop-drop (n - i) i old ∙ ap (λ (m : ℕ). drop m old) end in
+    ap (λ (m : ℕ). drop m (filled i f old)) rest ∙ drop-append-add (table i f) (drop i old) (n - i) ∙ drop-drop (n - i) i old ∙ ap (λ (m : ℕ). drop m old) end in
     ap (λ (l : List ℕ). table n f ++ l) past
 
 -- a buffer whose front is the table is filled already
@@ -88,8 +88,8 @@ pub table-join : (n m : ℕ) (f : ℕ → ℕ) → table n f ++ table m (λ k. f
 table-join n zero f = append-nil (table n f) ∙ ap (λ (k : ℕ). table k f) (sym (add-zero n))
 table-join n (suc m) f =
     sym (append-assoc (table n f) (table m (λ k. f (n + k))) (f (n + m) ∷ []))
-        ∙ ap (λ (l : List ℕ). l ++ (f (n + m) ∷ [])) (table-join n m f)
-        ∙ ap (λ (k : ℕ). table k f) (sym (add-suc n m))
+    ∙ ap (λ (l : List ℕ). l ++ (f (n + m) ∷ [])) (table-join n m f)
+    ∙ ap (λ (k : ℕ). table k f) (sym (add-suc n m))
 
 -- a buffer that is filled to its end holds the table alone
 pub filled-all : (n : ℕ) (f : ℕ → ℕ) (old : List ℕ) → length old ≤ n → filled n f old ≡ table n f
@@ -110,7 +110,7 @@ part-filled f a e old out new h s is =
     let whole-way : a + (e - a) ≡ e = omega arith in
     let front : take a out ≡ table a f = ap (take a) s ∙ filled-take a f old in
     let past : drop (e - a) (drop a out) ≡ drop e old =
-        ap (λ (l : List ℕ). drop (e - a) (drop a l)) s ∙ ap (drop (e - a)) (drop-at (table a f) (drop a old) a (length-table a f)) ∙ drop-drop (e - a) a old ∙ ap (λ (k : ℕ). drop k old) whole-way in
+    ap (λ (l : List ℕ). drop (e - a) (drop a l)) s ∙ ap (drop (e - a)) (drop-at (table a f) (drop a old) a (length-table a f)) ∙ drop-drop (e - a) a old ∙ ap (λ (k : ℕ). drop k old) whole-way in
     rw (front, past, is)
     (sym (append-assoc (table a f) (table (e - a) (λ k. f (a + k))) (drop e old)) ∙ ap (λ (l : List ℕ). l ++ drop e old) (table-join a (e - a) f ∙ ap (λ (k : ℕ). table k f) whole-way))
 

@@ -106,6 +106,10 @@ pub sound-more : {fs gs : List Fault} → Sound fs → Sound gs → Sound (fs ++
 sound-more none r = r
 sound-more (next t s) r = next t (sound-more s r)
 
+pub sound-front : (fs gs : List Fault) → Sound (fs ++ gs) → Sound fs
+sound-front [] gs s = none
+sound-front (f ∷ fs) gs (next t s) = next t (sound-front fs gs s)
+
 -- what an answer that was handed on says of its faults
 pub refused-told : {A : Type 0} (fs : List Fault) (a : A) (r : Refusal) → refused (number r) ≡ unless fs a → First fs (number r)
 refused-told fs a r e = refused-first fs a (number r) (sym e)

@@ -3,7 +3,7 @@
 use mathlib.Core.Path.{_≡_, refl, sym, ap, _∙_}
 use mathlib.Core.Bool.{Bool, true, not}
 use mathlib.Core.List.{List, _++_}
-use Prim.Native.Nat.{ℕ, _+_, _-_, _*_, _/_, _%_, _≤_, _<_}
+use Prim.Native.Nat.{ℕ, _+_, _-_, _*_, _/_, _%_, _<_}
 use native.Mathlib.Nat.{zero-add, mod-le, mod-eq-of-lt, div-lt-iff-lt-mul}
 use native.Mathlib.Omega.{arith}
 use borrow.Author.Tests.{eq-eqb, lt-ltb, le-ltb}
@@ -21,7 +21,7 @@ use Rattle.strips.specs.Promises.{reorderFaults, Reordered, wordsOf}
 use Rattle.strips.proofs.Sums.{sample-alone, difference-alone}
 use Rattle.strips.proofs.Stored.{word-room}
 use Rattle.strips.proofs.Parts.{part-word}
-use Rattle.rows.specs.Row.{oneRow, RowFits, RowServed, Led, LeadFits, LedInto, undoneAt, predictedAt}
+use Rattle.rows.specs.Row.{oneRow, RowServed, Led, LeadFits, LedInto, undoneAt, predictedAt}
 
 -- what `reorder` does to the front is what `lead` promises of the whole
 pub led : (raw out new : List ℕ) (step width : ℕ) (le out-le : Bool) (answer : Done) → LeadFits raw step width out → Reordered (part 0 step raw) width le out-le (part 0 step out) answer new → new ++ drop (step - 0) (drop 0 out) ≡ filled step (storedAt width out-le (wordsOf width le raw)) out
@@ -34,10 +34,10 @@ led raw out new step width le out-le answer fits p =
     let sound : Sound (reorderFaults front width (part 0 step out)) = next (ap not (fits .takes)) (next (ap not (eq-eqb _ _ words)) (next (le-ltb (length (part 0 step out)) (length front) (omega arith)) none)) in
     let stored = storedAt width out-le (wordsOf width le raw) in
     let all : new ≡ table (step - 0) (λ k. stored (0 + k)) =
-        finished (reorderFaults front width (part 0 step out)) tt (length front) (storedAt width out-le (wordsOf width le front)) (part 0 step out) new sound p
-            ∙ filled-all (length front) _ (part 0 step out) (omega arith)
-            ∙ ap (λ (n : ℕ). table n (storedAt width out-le (wordsOf width le front))) long
-            ∙ table-same (step - 0) _ _ (λ k h. rw zero-add (ap (digit 256 (turn out-le width (k % width))) (part-word raw 0 step (k / width * width) width le (word-room (step - 0) width k (rw none-taken (fits .words)) h) ∙ ap (λ (i : ℕ). wordAt raw i width le) (zero-add (k / width * width))))) in
+    finished (reorderFaults front width (part 0 step out)) tt (length front) (storedAt width out-le (wordsOf width le front)) (part 0 step out) new sound p
+    ∙ filled-all (length front) _ (part 0 step out) (omega arith)
+    ∙ ap (λ (n : ℕ). table n (storedAt width out-le (wordsOf width le front))) long
+    ∙ table-same (step - 0) _ _ (λ k h. rw zero-add (ap (digit 256 (turn out-le width (k % width))) (part-word raw 0 step (k / width * width) width le (word-room (step - 0) width k (rw none-taken (fits .words)) h) ∙ ap (λ (i : ℕ). wordAt raw i width le) (zero-add (k / width * width))))) in
     part-filled stored 0 step out out new (omega arith) refl all
 
 module _ (raw : List ℕ) (b : Bytes raw) (channels width : ℕ) (some : 0 < width) (le out-le : Bool) (k : ℕ) (h : k < channels * width) where

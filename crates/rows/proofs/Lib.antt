@@ -1,3 +1,4 @@
 pub mod Loops
 pub mod Leading
 pub mod Checked
+pub mod Determined

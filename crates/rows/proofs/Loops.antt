@@ -4,17 +4,16 @@ use mathlib.Core.Bool.{Bool, true, false}
 use mathlib.Core.List.{List}
 use Prim.Native.Nat.{ℕ, zero, suc, _+_, _-_, _*_, _/_, _%_, _≤_, _<_}
 use native.Mathlib.Nat.{mul-mod-left, add-zero, zero-mod, zero-div, add-mod-right, add-div-right, div-add-mod', mod-eq-of-lt, le-div-iff-mul-le, add-mul, one-mul, mul-sub, mul-comm, le-mul-of-pos-right}
-use native.Mathlib.Numerals.{add-one, sub-one}
+use native.Mathlib.Numerals.{add-one}
 use native.Mathlib.Omega.{arith}
 use borrow.Author.Tests.{le-ltb}
 use lib.ListN.{length, getD}
-use Rattle.answer.specs.Table.{filled, stores}
+use Rattle.answer.specs.Table.{filled}
 use Rattle.answer.proofs.Filling.{length-stores, stores-filled, filled-front, filled-already}
-use Rattle.words.specs.Digits.{digit}
 use Rattle.words.specs.Word.{turn, wordAt, modulus, plus, minus}
 use Rattle.words.proofs.Words.{digits-word}
 use Rattle.swaps.proofs.Mirror.{group-room}
-use Rattle.strips.specs.Sample.{Strip, alone, wordOf, sample, difference, storedAt}
+use Rattle.strips.specs.Sample.{alone, wordOf, sample, difference, storedAt}
 use Rattle.strips.proofs.Sums.{first-alone, sample-alone, sample-later, difference-later}
 use Rattle.strips.proofs.Stored.{stored-byte}
 use Rattle.strips.proofs.Strips.{groups-words}
@@ -74,7 +73,7 @@ carried-on raw width le zero h =
     sample-alone (oneRow raw 1 width) true le raw 0 (first-alone (oneRow raw 1 width) true (omega arith)) ∙ ap (λ (x : ℕ). x % modulus width) (sym (add-zero (wordOf (oneRow raw 1 width) le raw 0)))
 carried-on raw width le (suc n) h =
     sample-later (oneRow raw 1 width) true le raw (suc n) (omega arith) (later raw 1 width (suc n) h (omega arith))
-        ∙ ap (λ (m : ℕ). plus width (wordOf (oneRow raw 1 width) le raw (suc n)) (sample (oneRow raw 1 width) true le raw m)) (omega arith)
+    ∙ ap (λ (m : ℕ). plus width (wordOf (oneRow raw 1 width) le raw (suc n)) (sample (oneRow raw 1 width) true le raw m)) (omega arith)
 
 module _ (raw : List ℕ) (width : ℕ) (le out-le : Bool) (old : List ℕ) (at : ℕ) (out : List ℕ) (sum : ℕ) (fits : RowFits raw 1 width old) (is : Upto (sample (oneRow raw 1 width) true le raw) width out-le raw old at out) (carry : sum ≡ carried raw width le (at / width)) where
   whole-words : length raw % width ≡ 0
@@ -108,8 +107,8 @@ module _ (raw : List ℕ) (channels width : ℕ) (le out-le : Bool) (old : List 
   step-back : (at / width - channels) * width ≡ at - channels * width
   step-back =
       mul-comm (at / width - channels) width
-          ∙ mul-sub width (at / width) channels
-          ∙ omega (arith, mul-comm width (at / width), mul-comm width channels, back-at v width out-le raw old at out is)
+      ∙ mul-sub width (at / width) channels
+      ∙ omega (arith, mul-comm width (at / width), mul-comm width channels, back-at v width out-le raw old at out is)
 
   module _ (more : at < length raw) where
     pub trail-room : at + width ≤ length raw
@@ -129,10 +128,10 @@ module _ (raw : List ℕ) (channels width : ℕ) (le out-le : Bool) (old : List 
     stored-before small =
         let wide : width ≤ channels * width = omega (arith, le-mul-of-pos-right {m = channels} width (fits .channel), mul-comm width channels) in
         digits-word out (at - channels * width) width out-le (v (at / width - channels)) (λ p h.
-            ap (λ (l : List ℕ). getD l (at - channels * width + p) 0) (is .so-far)
-                ∙ filled-front at (storedAt width out-le v) old (at - channels * width + p) (omega arith)
-                ∙ (rw step-back at (stored-byte width out-le v (at / width - channels) p h)))
-            ∙ mod-eq-of-lt small
+        ap (λ (l : List ℕ). getD l (at - channels * width + p) 0) (is .so-far)
+        ∙ filled-front at (storedAt width out-le v) old (at - channels * width + p) (omega arith)
+        ∙ (rw step-back at (stored-byte width out-le v (at / width - channels) p h)))
+        ∙ mod-eq-of-lt small
 
 module _ (raw : List ℕ) (channels width : ℕ) (le out-le : Bool) (old : List ℕ) (at : ℕ) (out : List ℕ) (fits : RowFits raw channels width old) (past : channels * width ≤ at) (more : at < length raw) where
   pub trail-turned : Upto (sample (oneRow raw channels width) true le raw) width out-le raw old at out → (x : ℕ) (new : List ℕ) → x ≡ plus width (wordAt raw at width le) (wordAt out (at - channels * width) width out-le) → Put out at width out-le x new → Upto (sample (oneRow raw channels width) true le raw) width out-le raw old (at + width) new
@@ -142,8 +141,8 @@ module _ (raw : List ℕ) (channels width : ℕ) (le out-le : Bool) (old : List 
       let small = sample-below (oneRow raw channels width) true le raw (fits .channel) (n - channels) in
       turned v width out-le raw old at out is (groups-words (length raw) channels width (fits .groups)) more (fits .room) x new
       (e
-          ∙ rw (stored-before raw channels width le out-le old at out v fits is past more small, ← word-here raw channels width le out-le old at out v fits is past more)
-          (sym (sample-later (oneRow raw channels width) true le raw n (fits .channel) (trail-later raw channels width le out-le old at out v fits is past more))))
+      ∙ rw (stored-before raw channels width le out-le old at out v fits is past more small, ← word-here raw channels width le out-le old at out v fits is past more)
+      (sym (sample-later (oneRow raw channels width) true le raw n (fits .channel) (trail-later raw channels width le out-le old at out v fits is past more))))
       put
 
   pub difference-turned : Upto (difference (oneRow raw channels width) true le raw) width out-le raw old at out → (x : ℕ) (new : List ℕ) → x ≡ minus width (wordAt raw at width le) (wordAt raw (at - channels * width) width le) → Put out at width out-le x new → Upto (difference (oneRow raw channels width) true le raw) width out-le raw old (at + width) new
@@ -152,8 +151,8 @@ module _ (raw : List ℕ) (channels width : ℕ) (le out-le : Bool) (old : List 
       let n = at / width in
       turned v width out-le raw old at out is (groups-words (length raw) channels width (fits .groups)) more (fits .room) x new
       (e
-          ∙ rw (← word-before raw channels width le out-le old at out v fits is past more, ← word-here raw channels width le out-le old at out v fits is past more)
-          (sym (difference-later (oneRow raw channels width) true le raw n (trail-later raw channels width le out-le old at out v fits is past more))))
+      ∙ rw (← word-before raw channels width le out-le old at out v fits is past more, ← word-here raw channels width le out-le old at out v fits is past more)
+      (sym (difference-later (oneRow raw channels width) true le raw n (trail-later raw channels width le out-le old at out v fits is past more))))
       put
 
 -- a row whose first words are written begins past them

@@ -11,7 +11,17 @@ ghost use Prim.Native.Nat.{_≤_, _%_};
 ghost use lib.ListN.{length};
 ghost use Rattle.words.specs.Promises.{served};
 ghost use Rattle.rows.specs.Row.{
-    RowFits, RowServed, Led, LeadFits, LedInto, undoneAt, predictedAt, UndoneInto, PredictedInto, RowUndone, RowPredicted,
+  RowFits,
+  RowServed,
+  Led,
+  LeadFits,
+  LedInto,
+  undoneAt,
+  predictedAt,
+  UndoneInto,
+  PredictedInto,
+  RowUndone,
+  RowPredicted,
 };
 
 fn sum(raw: &[u8], width: usize, le: bool, out_le: bool, out: &mut [u8])
@@ -89,7 +99,14 @@ fn predict(raw: &[u8], channels: usize, width: usize, le: bool, out_le: bool, ou
 }
 
 // The samples of one predicted row.
-pub fn undo_row(raw: &[u8], channels: usize, width: usize, le: bool, out_le: bool, out: &mut [u8]) -> Done
+pub fn undo_row(
+    raw: &[u8],
+    channels: usize,
+    width: usize,
+    le: bool,
+    out_le: bool,
+    out: &mut [u8],
+) -> Done
     ensures { λ r. ⌜ RowUndone (now (raw .entry)) channels width le «out_le» (now (out .entry)) r (now (out .exit)) ⌝ }
 {
     match strips::check_strip(raw.len(), raw.len(), channels, width) {
@@ -105,7 +122,14 @@ pub fn undo_row(raw: &[u8], channels: usize, width: usize, le: bool, out_le: boo
 }
 
 // One row, predicted.
-pub fn predict_row(raw: &[u8], channels: usize, width: usize, le: bool, out_le: bool, out: &mut [u8]) -> Done
+pub fn predict_row(
+    raw: &[u8],
+    channels: usize,
+    width: usize,
+    le: bool,
+    out_le: bool,
+    out: &mut [u8],
+) -> Done
     ensures { λ r. ⌜ RowPredicted (now (raw .entry)) channels width le «out_le» (now (out .entry)) r (now (out .exit)) ⌝ }
 {
     match strips::check_strip(raw.len(), raw.len(), channels, width) {

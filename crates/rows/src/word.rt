@@ -39,9 +39,27 @@ pub(crate) fn get8(s: &[u8], at: usize, le: bool) -> u64
     ensures { λ r. ⌜ r ≡ wordAt (now (s .entry)) at 8 le ⌝ }
 {
     if le {
-        words::join8(s[at], s[at + 1], s[at + 2], s[at + 3], s[at + 4], s[at + 5], s[at + 6], s[at + 7])
+        words::join8(
+            s[at],
+            s[at + 1],
+            s[at + 2],
+            s[at + 3],
+            s[at + 4],
+            s[at + 5],
+            s[at + 6],
+            s[at + 7],
+        )
     } else {
-        words::join8(s[at + 7], s[at + 6], s[at + 5], s[at + 4], s[at + 3], s[at + 2], s[at + 1], s[at])
+        words::join8(
+            s[at + 7],
+            s[at + 6],
+            s[at + 5],
+            s[at + 4],
+            s[at + 3],
+            s[at + 2],
+            s[at + 1],
+            s[at],
+        )
     }
 }
 

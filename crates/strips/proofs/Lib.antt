@@ -5,3 +5,4 @@ pub mod Rows
 pub mod Undo
 pub mod Orders
 pub mod Parts
+pub mod Determined

@@ -1,15 +1,15 @@
 -- Words stored in the order that they were read in are the bytes as they are; in the other order, each word's bytes backwards. Assumes nothing.
-use mathlib.Core.Path.{_≡_, refl, sym, ap, _∙_}
+use mathlib.Core.Path.{_≡_, ap, _∙_}
 use mathlib.Core.Bool.{Bool, true, false}
 use mathlib.Core.List.{List}
-use Prim.Native.Nat.{ℕ, _+_, _-_, _*_, _/_, _%_, _≤_, _<_}
+use Prim.Native.Nat.{ℕ, _-_, _*_, _/_, _%_, _<_}
 use native.Mathlib.Nat.{mod-lt, div-add-mod'}
 use native.Mathlib.Omega.{arith}
 use lib.ListN.{getD}
 use Rattle.words.specs.Digits.{digit}
 use Rattle.words.specs.Word.{turn, Bytes, wordAt}
 use Rattle.words.proofs.Words.{word-digit}
-use Rattle.swaps.specs.Swapped.{mirror, swappedAt}
+use Rattle.swaps.specs.Swapped.{swappedAt}
 use Rattle.strips.specs.Sample.{storedAt}
 use Rattle.strips.specs.Promises.{apart, wordsOf}
 

@@ -1,10 +1,10 @@
 -- Words stored as bytes: the word that stands at n × width is word n, and the words of a list, stored in their own order, are the list.
 -- Shown once over the width. Assumes nothing.
-use mathlib.Core.Path.{_≡_, refl, sym, ap, _∙_}
-use mathlib.Core.Bool.{Bool, true, false}
+use mathlib.Core.Path.{_≡_, ap, _∙_}
+use mathlib.Core.Bool.{Bool}
 use mathlib.Core.List.{List}
-use Prim.Native.Nat.{ℕ, zero, suc, _+_, _-_, _*_, _/_, _%_, _≤_, _<_}
-use native.Mathlib.Nat.{mod-lt, div-add-mod', mul-mod-left, dvd-of-mod-eq-zero, mod-eq-zero-of-dvd}
+use Prim.Native.Nat.{ℕ, _+_, _*_, _/_, _%_, _≤_, _<_}
+use native.Mathlib.Nat.{mod-lt, div-add-mod', mul-mod-left}
 use native.Mathlib.Omega.{arith}
 use lib.ListN.{length, getD}
 use lib.Arith.{digits-div, digits-mod}
@@ -32,7 +32,7 @@ word-room bytes width k whole h =
 pub stored-self : (width : ℕ) (le : Bool) (s : List ℕ) → 0 < width → Bytes s → table (length s) (storedAt width le (λ n. wordAt s (n * width) width le)) ≡ s
 stored-self width le s some b =
     table-same (length s) _ _ (λ k h. word-digit s (k / width * width) width le b (k % width) (mod-lt k some) ∙ ap (λ (j : ℕ). getD s j 0) (div-add-mod' k width))
-        ∙ table-self s
+    ∙ table-self s
 
 -- words that agree, of which all is there, are stored alike
 pub stored-same : (bytes width : ℕ) (le : Bool) (v w : ℕ → ℕ) → bytes % width ≡ 0 → ((n : ℕ) → n * width + width ≤ bytes → v n ≡ w n) → table bytes (storedAt width le v) ≡ table bytes (storedAt width le w)

@@ -1,27 +1,23 @@
 -- Forward prediction then conversion, and conversion then forward prediction, give the first bytes back: for every strip of bytes, good
 -- geometry, byte orders and prediction flag, shown once over the width. Assumes nothing.
 use mathlib.Core.Path.{_≡_, refl, sym, ap, _∙_}
-use mathlib.Core.Bool.{Bool, true, false, not}
+use mathlib.Core.Bool.{Bool, true, false}
 use mathlib.Core.List.{List}
-use Prim.Native.Nat.{ℕ, zero, suc, _+_, _-_, _*_, _/_, _%_, _≤_, _<_}
-use native.Mathlib.Nat.{mod-lt, mod-mod, mod-eq-of-lt, mul-le-mul-right}
+use Prim.Native.Nat.{ℕ, zero, suc, _+_, _-_, _*_, _%_, _≤_, _<_}
+use native.Mathlib.Nat.{mod-lt, mod-eq-of-lt, mul-le-mul-right}
 use native.Mathlib.Omega.{arith}
-use borrow.Author.Tests.{eqb-true, eqb-false, not-false}
 use lib.ListN.{length, take}
-use lib.Dec.{eqb}
 use Rattle.answer.specs.Outcome.{Sound}
 use Rattle.answer.specs.Table.{table}
 use Rattle.answer.specs.declared.Done.the-variants as Done-is
-use Rattle.answer.proofs.Promised.{in-turn, done-sound, sound-here, sound-rest}
-use Rattle.words.specs.Word.{Bytes, modulus, plus, minus}
-use Rattle.words.specs.Promises.{served}
-use Rattle.words.proofs.Served.{served-some}
+use Rattle.answer.proofs.Promised.{in-turn, done-sound, sound-front}
+use Rattle.words.specs.Word.{Bytes, modulus}
 use Rattle.words.proofs.Words.{modulus-pos, word-below, plus-below, minus-below, plus-minus, minus-plus}
 use Rattle.strips.specs.Sample.{Strip, Good, alone, wordOf, sample, difference, storedAt}
-use Rattle.strips.specs.Promises.{convertFaults, Converted, Forwarded}
+use Rattle.strips.specs.Promises.{stripFaults, convertFaults, Converted, Forwarded}
 use Rattle.strips.proofs.Sums.{not-alone, sample-alone, sample-later, difference-alone, difference-later}
 use Rattle.strips.proofs.Stored.{stored-word, stored-same, stored-self}
-use Rattle.strips.proofs.Strips.{bytes-words}
+use Rattle.strips.proofs.Strips.{bytes-words, good-checked}
 
 pub sample-below : (g : Strip) (predict le : Bool) (raw : List ℕ) → 0 < g .channels → (n : ℕ) → sample g predict le raw n < modulus (g .width)
 sample-below g predict le raw some n = by (alone g predict n) refl
@@ -59,12 +55,12 @@ module _ (g : Strip) (predict le out-le : Bool) (raw : List ℕ) (good : Good (l
       by : (a : Bool) → alone g predict n ≡ a → (n - g .channels < more → (n - g .channels) * g .width + g .width ≤ length raw → sample g predict out-le forwarded (n - g .channels) ≡ wordOf g le raw (n - g .channels)) → sample g predict out-le forwarded n ≡ wordOf g le raw n
       by true e back =
           sample-alone g predict out-le forwarded n e
-              ∙ ap (λ (x : ℕ). x % modulus (g .width)) (word-forwarded n room ∙ difference-alone g predict le raw n e ∙ mod-eq-of-lt (word-fits n))
-              ∙ mod-eq-of-lt (word-fits n)
+          ∙ ap (λ (x : ℕ). x % modulus (g .width)) (word-forwarded n room ∙ difference-alone g predict le raw n e ∙ mod-eq-of-lt (word-fits n))
+          ∙ mod-eq-of-lt (word-fits n)
       by false e back =
           let earlier = back (omega (arith, not-alone g predict n e, good .channel)) (back-room n room) in
           sample-later g predict out-le forwarded n (good .channel) e
-              ∙ rw (word-forwarded n room, earlier, difference-later g predict le raw n e) (minus-plus (g .width) (wordOf g le raw n) (wordOf g le raw (n - g .channels)) (word-fits n) (word-fits (n - g .channels)))
+          ∙ rw (word-forwarded n room, earlier, difference-later g predict le raw n e) (minus-plus (g .width) (wordOf g le raw n) (wordOf g le raw (n - g .channels)) (word-fits n) (word-fits (n - g .channels)))
 
   -- what conversion writes, and what forward prediction makes of it
   converted : List ℕ
@@ -80,46 +76,38 @@ module _ (g : Strip) (predict le out-le : Bool) (raw : List ℕ) (good : Good (l
       by : (a : Bool) → alone g predict n ≡ a → difference g predict out-le converted n ≡ wordOf g le raw n
       by true e =
           difference-alone g predict out-le converted n e
-              ∙ ap (λ (x : ℕ). x % modulus (g .width)) (word-converted n room ∙ sample-alone g predict le raw n e ∙ mod-eq-of-lt (word-fits n))
-              ∙ mod-eq-of-lt (word-fits n)
+          ∙ ap (λ (x : ℕ). x % modulus (g .width)) (word-converted n room ∙ sample-alone g predict le raw n e ∙ mod-eq-of-lt (word-fits n))
+          ∙ mod-eq-of-lt (word-fits n)
       by false e =
           difference-later g predict out-le converted n e
-              ∙ rw (word-converted n room, word-converted (n - g .channels) (back-room n room), sample-later g predict le raw n (good .channel) e)
-              (plus-minus (g .width) (wordOf g le raw n) (sample g predict le raw (n - g .channels)) (word-fits n) (sample-below g predict le raw (good .channel) (n - g .channels)))
+          ∙ rw (word-converted n room, word-converted (n - g .channels) (back-room n room), sample-later g predict le raw n (good .channel) e)
+          (plus-minus (g .width) (wordOf g le raw n) (sample g predict le raw (n - g .channels)) (word-fits n) (sample-below g predict le raw (good .channel) (n - g .channels)))
 
   pub forward-converted : table (length raw) (storedAt (g .width) le (sample g predict out-le (table (length raw) (storedAt (g .width) out-le (difference g predict le raw))))) ≡ raw
   unfolding forwarded
   forward-converted =
       stored-same (length raw) (g .width) le _ (wordOf g le raw) (bytes-words (length raw) g good) (λ n room. read-back (suc n) n (omega arith) room)
-          ∙ stored-self (g .width) le raw (good .wide) b
+      ∙ stored-self (g .width) le raw (good .wide) b
 
   pub converted-forward : table (length raw) (storedAt (g .width) le (difference g predict out-le (table (length raw) (storedAt (g .width) out-le (sample g predict le raw))))) ≡ raw
   unfolding converted
   converted-forward =
       stored-same (length raw) (g .width) le _ (wordOf g le raw) (bytes-words (length raw) g good) taken-back
-          ∙ stored-self (g .width) le raw (good .wide) b
+      ∙ stored-self (g .width) le raw (good .wide) b
 
 -- what a call that is done has shown of the strip
-pub good-strip : (raw : List ℕ) (g : Strip) (old : List ℕ) → Sound (convertFaults raw g old) → Good (length raw) g
-good-strip raw g old s =
-    let row = sound-rest (sound-rest (sound-rest (sound-rest s))) in
-    record {
-      channel = omega (arith, eqb-false (g .channels) 0 (sound-here (sound-rest s)));
-      wide = served-some (g .width) (not-false (served (g .width)) (sound-here s)) .0;
-      long = omega (arith, eqb-false (g .row) 0 (sound-here (sound-rest (sound-rest (sound-rest s)))));
-      rows = eqb-true (g .row % (g .channels * g .width)) 0 (not-false (eqb (g .row % (g .channels * g .width)) 0) (sound-here row));
-      whole = eqb-true (length raw % g .row) 0 (not-false (eqb (length raw % g .row) 0) (sound-here (sound-rest row)));
-    }
+good-strip : (raw : List ℕ) (g : Strip) (old : List ℕ) → Sound (convertFaults raw g old) → Good (length raw) g
+good-strip raw g old s = good-checked (length raw) g (sound-front (stripFaults (length raw) g) _ s)
 
 module _ (raw old x old′ y : List ℕ) (g : Strip) (predict le out-le : Bool) (b : Bytes raw) where
   pub forward-then-convert : Forwarded raw g predict le out-le old Done-is.Done x → Converted (take (length raw) x) g predict out-le le old′ Done-is.Done y → take (length raw) y ≡ raw
   forward-then-convert p q =
       let good = good-strip raw g old (done-sound (convertFaults raw g old) tt tt (sym (p .answers))) in
       in-turn (length raw) (storedAt (g .width) out-le (difference g predict le raw)) (λ l. storedAt (g .width) le (sample g predict out-le l)) old x old′ y tt tt p q
-          ∙ forward-converted g predict le out-le raw good b
+      ∙ forward-converted g predict le out-le raw good b
 
   pub convert-then-forward : Converted raw g predict le out-le old Done-is.Done x → Forwarded (take (length raw) x) g predict out-le le old′ Done-is.Done y → take (length raw) y ≡ raw
   convert-then-forward p q =
       let good = good-strip raw g old (done-sound (convertFaults raw g old) tt tt (sym (p .answers))) in
       in-turn (length raw) (storedAt (g .width) out-le (sample g predict le raw)) (λ l. storedAt (g .width) le (difference g predict out-le l)) old x old′ y tt tt p q
-          ∙ converted-forward g predict le out-le raw good b
+      ∙ converted-forward g predict le out-le raw good b

@@ -1,5 +1,4 @@
 -- What this crate's functions promise: document 01's order of refusals, and each sample stored in the asked byte order. Assumes nothing.
-use Prim.{Unit}
 use Prim.Native.Nat.{ℕ, _*_, _%_}
 use mathlib.Core.Path.{_≡_}
 use mathlib.Core.Bool.{Bool, true, false, not}

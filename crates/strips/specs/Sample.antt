@@ -1,8 +1,8 @@
 -- Samples of a strip, as document 01 has them: a sample is its input word, plus the sample `channels` before it in its row when
 -- prediction is on, modulo 256^width; forward prediction takes that one's word away. Assumes nothing.
-use Prim.Native.Nat.{ℕ, zero, suc, _+_, _-_, _*_, _/_, _%_, _<_}
+use Prim.Native.Nat.{ℕ, zero, suc, _-_, _*_, _/_, _%_, _<_}
 use mathlib.Core.Path.{_≡_}
-use mathlib.Core.Bool.{Bool, true, false, not, _||_}
+use mathlib.Core.Bool.{Bool, not, _||_}
 use mathlib.Core.List.{List}
 use lib.Dec.{ltb}
 use Rattle.answer.specs.Outcome.{pick}

@@ -32,11 +32,7 @@ pub fn check_strip(raw_len: usize, row_bytes: usize, channels: usize, width: usi
 fn orders_differ(a: bool, b: bool) -> bool
     ensures { λ r. ⌜ r ≡ apart a b ⌝ }
 {
-    if a {
-        !b
-    } else {
-        b
-    }
+    if a { !b } else { b }
 }
 
 // The same words in another byte order, or the same: what conversion is without prediction.

@@ -1,7 +1,7 @@
 -- `rows::predict_row` meets its promise: the strip check's faults first, then the room. Assumes nothing.
 use borrow.Author.Needs.{needs}
 use borrow.Author.Tests.{lt-ltb, le-ltb}
-use mathlib.Core.Path.{_≡_, ap, _∙_, sym}
+use mathlib.Core.Path.{ap, _∙_, sym}
 use lib.ListN.{length}
 use denote.Ref.{now}
 use Rattle.answer.specs.Outcome.{here, next, none, Sound, doneOutcome}

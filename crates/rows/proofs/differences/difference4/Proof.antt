@@ -23,12 +23,12 @@ mul-step : tie.Need-mul-step Inv-loop μ-loop
 mul-step c = omega arith
 
 loop-holds : tie.Need-loop-holds Inv-loop μ-loop
-loop-holds c = 
+loop-holds c =
     let start = c .before .before in
     (led-upto _ (now (start .args .raw)) (start .args .channels) 4 _ (now (start .args .out)) (start .pre), omega arith)
 
 get4-requires : tie.Need-get4-requires Inv-loop μ-loop
-get4-requires c κs = 
+get4-requires c κs =
     let at = c .before in
     let start = at .before .before .before in
     trail-room (now (start .args .raw)) (start .args .channels) 4 (start .args .le) (start .args .out-le) (now (start .args .out)) (at .loop .at) (at .loop .out) (difference (oneRow (now (start .args .raw)) (start .args .channels) 4) true (start .args .le) (now (start .args .raw))) (start .pre .fits) (at .loop .inv .0) (at .loop .inv .1) (c .loop-test .taken)
@@ -37,7 +37,7 @@ sub-get4 : tie.Need-sub-get4 Inv-loop μ-loop
 sub-get4 c = c .before .before .loop .inv .1
 
 get4-requires-2 : tie.Need-get4-requires-2 Inv-loop μ-loop
-get4-requires-2 c κs = 
+get4-requires-2 c κs =
     let at = c .before .before in
     let start = at .before .before .before in
     omega (arith, trail-room (now (start .args .raw)) (start .args .channels) 4 (start .args .le) (start .args .out-le) (now (start .args .out)) (at .loop .at) (at .loop .out) (difference (oneRow (now (start .args .raw)) (start .args .channels) 4) true (start .args .le) (now (start .args .raw))) (start .pre .fits) (at .loop .inv .0) (at .loop .inv .1) (c .before .loop-test .taken), at .loop .inv .0 .same, start .pre .fits .room, start .pre .fits .channel)
@@ -46,13 +46,13 @@ sub4-requires : tie.Need-sub4-requires Inv-loop μ-loop
 sub4-requires c κs = search needs
 
 put4-requires : tie.Need-put4-requires Inv-loop μ-loop
-put4-requires c κs = 
+put4-requires c κs =
     let at = c .before .before .before .before .before in
     let start = at .before .before .before in
     omega (arith, trail-room (now (start .args .raw)) (start .args .channels) 4 (start .args .le) (start .args .out-le) (now (start .args .out)) (at .loop .at) (at .loop .out) (difference (oneRow (now (start .args .raw)) (start .args .channels) 4) true (start .args .le) (now (start .args .raw))) (start .pre .fits) (at .loop .inv .0) (at .loop .inv .1) (c .before .before .before .before .loop-test .taken), at .loop .inv .0 .same, start .pre .fits .room)
 
 add-at : tie.Need-add-at Inv-loop μ-loop
-add-at c = 
+add-at c =
     let at = c .before .before .before .before .before .before .before .before in
     let start = at .before .before .before in
     omega (arith, trail-room (now (start .args .raw)) (start .args .channels) 4 (start .args .le) (start .args .out-le) (now (start .args .out)) (at .loop .at) (at .loop .out) (difference (oneRow (now (start .args .raw)) (start .args .channels) 4) true (start .args .le) (now (start .args .raw))) (start .pre .fits) (at .loop .inv .0) (at .loop .inv .1) (c .before .before .before .before .before .before .before .loop-test .taken), start .good)
@@ -61,21 +61,21 @@ loop-less : tie.Need-loop-less Inv-loop μ-loop
 loop-less c = let more = c .before .before .before .before .before .before .before .loop-test .taken in omega arith
 
 loop-again : tie.Need-loop-again Inv-loop μ-loop
-loop-again c = 
+loop-again c =
     let at = c .before .before .before .before .before .before .before .before in
     let start = at .before .before .before in
     let more = c .before .before .before .before .before .before .before .loop-test .taken in
     let e =
-        c .before .before .before .before .sub4 .ensures
-            ∙ ap (λ (x : ℕ). minus 4 x (c .before .before .before .before .before .get42 .result)) (c .before .before .before .before .before .before .get4 .ensures)
-            ∙ ap (λ (y : ℕ). minus 4 (wordAt (now (start .args .raw)) (at .loop .at) 4 (start .args .le)) y) (c .before .before .before .before .before .get42 .ensures) in
+    c .before .before .before .before .sub4 .ensures
+    ∙ ap (λ (x : ℕ). minus 4 x (c .before .before .before .before .before .get42 .result)) (c .before .before .before .before .before .before .get4 .ensures)
+    ∙ ap (λ (y : ℕ). minus 4 (wordAt (now (start .args .raw)) (at .loop .at) 4 (start .args .le)) y) (c .before .before .before .before .before .get42 .ensures) in
     (difference-turned (now (start .args .raw)) (start .args .channels) 4 (start .args .le) (start .args .out-le) (now (start .args .out)) (at .loop .at) (at .loop .out) (start .pre .fits) (at .loop .inv .1) more (at .loop .inv .0) _ _ e (c .before .before .put4 .ensures), omega arith)
 
 same-length : tie.Need-same-length Inv-loop μ-loop
 same-length c = search needs
 
 returns : tie.Need-returns Inv-loop μ-loop
-returns c = 
+returns c =
     let at = c .before in
     let start = at .before .before .before in
     ended _ 4 _ (now (start .args .raw)) _ (at .loop .at) (at .loop .out) (at .loop .inv .0) (c .loop-test .left)

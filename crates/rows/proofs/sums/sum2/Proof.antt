@@ -23,7 +23,7 @@ loop-holds : tie.Need-loop-holds Inv-loop μ-loop
 loop-holds c = (upto-none _ 2 _ _ _, sym (carried-none _ 2 _))
 
 get2-requires : tie.Need-get2-requires Inv-loop μ-loop
-get2-requires c κs = 
+get2-requires c κs =
     let at = c .before in
     let start = at .before .before .before in
     sum-room (now (start .args .raw)) 2 (start .args .le) (start .args .out-le) (now (start .args .out)) (at .loop .at) (at .loop .out) (at .loop .sum) (start .pre) (at .loop .inv .0) (at .loop .inv .1) (c .loop-test .taken)
@@ -32,13 +32,13 @@ add2-requires : tie.Need-add2-requires Inv-loop μ-loop
 add2-requires c κs = search needs
 
 put2-requires : tie.Need-put2-requires Inv-loop μ-loop
-put2-requires c κs = 
+put2-requires c κs =
     let at = c .before .before .before .before in
     let start = at .before .before .before in
     omega (arith, sum-room (now (start .args .raw)) 2 (start .args .le) (start .args .out-le) (now (start .args .out)) (at .loop .at) (at .loop .out) (at .loop .sum) (start .pre) (at .loop .inv .0) (at .loop .inv .1) (c .before .before .before .loop-test .taken), at .loop .inv .0 .same, start .pre .room)
 
 add-at : tie.Need-add-at Inv-loop μ-loop
-add-at c = 
+add-at c =
     let at = c .before .before .before .before .before .before .before in
     let start = at .before .before .before in
     omega (arith, sum-room (now (start .args .raw)) 2 (start .args .le) (start .args .out-le) (now (start .args .out)) (at .loop .at) (at .loop .out) (at .loop .sum) (start .pre) (at .loop .inv .0) (at .loop .inv .1) (c .before .before .before .before .before .before .loop-test .taken), start .good)
@@ -47,7 +47,7 @@ loop-less : tie.Need-loop-less Inv-loop μ-loop
 loop-less c = let more = c .before .before .before .before .before .before .loop-test .taken in omega arith
 
 loop-again : tie.Need-loop-again Inv-loop μ-loop
-loop-again c = 
+loop-again c =
     let at = c .before .before .before .before .before .before .before in
     let start = at .before .before .before in
     let more = c .before .before .before .before .before .before .loop-test .taken in
@@ -58,7 +58,7 @@ same-length : tie.Need-same-length Inv-loop μ-loop
 same-length c = search needs
 
 returns : tie.Need-returns Inv-loop μ-loop
-returns c = 
+returns c =
     let at = c .before in
     let start = at .before .before .before in
     ended _ 2 _ (now (start .args .raw)) _ (at .loop .at) (at .loop .out) (at .loop .inv .0) (c .loop-test .left)

@@ -1,0 +1,96 @@
+-- `samples::transform_rows` meets its contract: the invariant and its laws are in proofs/Rowwise.antt. Assumes nothing.
+use borrow.Author.Needs.{needs}
+use native.Mathlib.Omega.{arith}
+use Prim.Native.Nat.{_-_}
+use lib.ListN.{length}
+use denote.Ref.{now}
+use Rattle.strips.specs.Sample.{strip}
+use Rattle.samples.proofs.Rowwise.{Rowwise, rowwise-none, row-some, row-room, row-served, row-turned, rows-ended}
+use Rattle.samples.proofs.transform_rows.Statement.{statement}
+use Rattle.samples.proofs.transform_rows.Tie as tie
+
+abbrev Inv-loop : tie.InvT-loop
+Inv-loop raw row-bytes channels width le out-le forward out₀ at₀ out at = Rowwise raw (strip row-bytes channels width) le out-le forward out₀ at out
+
+abbrev μ-loop : tie.MeasureT-loop
+μ-loop raw row-bytes channels width le out-le forward out₀ at₀ out at = length raw - at
+
+loop-holds : tie.Need-loop-holds Inv-loop μ-loop
+loop-holds c = rowwise-none _ _ _ _ _ _
+
+add-end : tie.Need-add-end Inv-loop μ-loop
+add-end c =
+    let at = c .before in
+    let start = at .before .before .before in
+    omega (arith, row-room (now (start .args .raw)) (strip (start .args .row-bytes) (start .args .channels) (start .args .width)) (start .args .le) (start .args .out-le) (start .args .forward) (now (start .args .out)) (at .loop .at) (at .loop .out) (start .pre) (at .loop .inv) (c .loop-test .taken), start .good)
+
+sub-transform-row : tie.Need-sub-transform-row Inv-loop μ-loop
+sub-transform-row c = omega arith
+
+part-transform-row-start : tie.Need-part-transform-row-start Inv-loop μ-loop
+part-transform-row-start c = omega arith
+
+part-transform-row-end : tie.Need-part-transform-row-end Inv-loop μ-loop
+part-transform-row-end c =
+    let at = c .before in
+    let start = at .before .before .before in
+    row-room (now (start .args .raw)) (strip (start .args .row-bytes) (start .args .channels) (start .args .width)) (start .args .le) (start .args .out-le) (start .args .forward) (now (start .args .out)) (at .loop .at) (at .loop .out) (start .pre) (at .loop .inv) (c .loop-test .taken)
+
+sub-transform-row-2 : tie.Need-sub-transform-row-2 Inv-loop μ-loop
+sub-transform-row-2 c = omega arith
+
+part-transform-row-start-2 : tie.Need-part-transform-row-start-2 Inv-loop μ-loop
+part-transform-row-start-2 c = omega arith
+
+part-transform-row-end-2 : tie.Need-part-transform-row-end-2 Inv-loop μ-loop
+part-transform-row-end-2 c =
+    let at = c .before .before in
+    let start = at .before .before .before in
+    omega (arith, row-room (now (start .args .raw)) (strip (start .args .row-bytes) (start .args .channels) (start .args .width)) (start .args .le) (start .args .out-le) (start .args .forward) (now (start .args .out)) (at .loop .at) (at .loop .out) (start .pre) (at .loop .inv) (c .before .loop-test .taken), at .loop .inv .same, start .pre .room)
+
+transform-row-requires : tie.Need-transform-row-requires Inv-loop μ-loop
+transform-row-requires c κs =
+    let at = c .before .before .before in
+    let start = at .before .before .before in
+    row-served (now (start .args .raw)) (strip (start .args .row-bytes) (start .args .channels) (start .args .width)) (start .args .le) (start .args .out-le) (start .args .forward) (now (start .args .out)) (at .loop .at) (at .loop .out) (start .pre) (at .loop .inv) (c .before .before .loop-test .taken)
+
+loop-less : tie.Need-loop-less Inv-loop μ-loop
+loop-less c =
+    let at = c .before .before .before .before .before .before in
+    let start = at .before .before .before in
+    omega (arith, row-some (now (start .args .raw)) (strip (start .args .row-bytes) (start .args .channels) (start .args .width)) (start .args .le) (start .args .out-le) (start .args .forward) (now (start .args .out)) (at .loop .at) (at .loop .out) (start .pre) (at .loop .inv), c .before .before .before .before .before .loop-test .taken)
+
+loop-again : tie.Need-loop-again Inv-loop μ-loop
+loop-again c =
+    let at = c .before .before .before .before .before .before in
+    let start = at .before .before .before in
+    row-turned (now (start .args .raw)) (strip (start .args .row-bytes) (start .args .channels) (start .args .width)) (start .args .le) (start .args .out-le) (start .args .forward) (now (start .args .out)) (at .loop .at) (at .loop .out) (start .pre) (at .loop .inv) (c .before .before .before .before .before .loop-test .taken) _ (c .before .before .transform-row .ensures)
+
+same-length : tie.Need-same-length Inv-loop μ-loop
+same-length c = search needs
+
+returns : tie.Need-returns Inv-loop μ-loop
+returns c =
+    let at = c .before in
+    let start = at .before .before .before in
+    rows-ended (now (start .args .raw)) (strip (start .args .row-bytes) (start .args .channels) (start .args .width)) (start .args .le) (start .args .out-le) (start .args .forward) (now (start .args .out)) (at .loop .at) (at .loop .out) (start .pre) (at .loop .inv) (c .loop-test .left)
+
+pub transform-rows-spec : {M : Type 1} → statement M
+transform-rows-spec =
+    tie.close
+    (tie.spec
+    Inv-loop
+    μ-loop
+    loop-holds
+    add-end
+    sub-transform-row
+    part-transform-row-start
+    part-transform-row-end
+    sub-transform-row-2
+    part-transform-row-start-2
+    part-transform-row-end-2
+    transform-row-requires
+    loop-less
+    loop-again
+    same-length
+    returns)
