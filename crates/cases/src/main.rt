@@ -1,5 +1,6 @@
 // Runs document 01's cases, the lines of `stdin`, over the library; prints those that differ, and then one line of counts.
 mod lent;
+mod sample_cases;
 mod tally;
 mod text;
 mod transport_cases;
@@ -7,9 +8,7 @@ mod word_cases;
 
 use tally::Tally;
 
-// Whether the case of this line holds; a line that names no call does not.
-fn holds(line: &[u8]) -> bool {
-    let call = text::token(line, 0);
+fn word_call(call: &[u8], line: &[u8]) -> bool {
     if check::same(call, b"read_word") {
         return word_cases::read_word(line);
     }
@@ -19,6 +18,10 @@ fn holds(line: &[u8]) -> bool {
     if check::same(call, b"byte_place") {
         return word_cases::byte_place(line);
     }
+    transport_call(call, line)
+}
+
+fn transport_call(call: &[u8], line: &[u8]) -> bool {
     if check::same(call, b"swap_components") {
         return transport_cases::swap_components(line);
     }
@@ -28,7 +31,28 @@ fn holds(line: &[u8]) -> bool {
     if check::same(call, b"commit_uninit") {
         return transport_cases::commit_uninit(line);
     }
+    sample_call(call, line)
+}
+
+fn sample_call(call: &[u8], line: &[u8]) -> bool {
+    if check::same(call, b"check_strip") {
+        return sample_cases::check_strip(line);
+    }
+    if check::same(call, b"convert") {
+        return sample_cases::transform(line, false);
+    }
+    if check::same(call, b"forward") {
+        return sample_cases::transform(line, true);
+    }
+    if check::same(call, b"reorder") {
+        return sample_cases::reorder(line);
+    }
     false
+}
+
+// Whether the case of this line holds; a line that names no call does not.
+fn holds(line: &[u8]) -> bool {
+    word_call(text::token(line, 0), line)
 }
 
 // An empty line, and one that begins with '#', is no case.
