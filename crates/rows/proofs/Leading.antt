@@ -16,15 +16,15 @@ use Rattle.answer.proofs.Filling.{part, length-part, part-filled, length-filled
 use Rattle.words.specs.Digits.{digit}
 use Rattle.words.specs.Word.{turn, Bytes, wordAt, modulus}
 use Rattle.words.proofs.Words.{word-below}
-use Rattle.strips.specs.Sample.{alone, storedAt}
-use Rattle.strips.specs.Promises.{reorderFaults, Reordered, wordsOf}
+use Rattle.strips.specs.Sample.{wordOf, alone, storedAt}
+use Rattle.strips.specs.Promises.{reorderFaults, Reordered}
 use Rattle.strips.proofs.Sums.{sample-alone, difference-alone}
 use Rattle.strips.proofs.Stored.{word-room}
 use Rattle.strips.proofs.Parts.{part-word}
 use Rattle.rows.specs.Row.{oneRow, RowServed, Led, LeadFits, LedInto, undoneAt, predictedAt}
 
 -- what `reorder` does to the front is what `lead` promises of the whole
-pub led : (raw out new : List ℕ) (step width : ℕ) (le out-le : Bool) (answer : Done) → LeadFits raw step width out → Reordered (part 0 step raw) width le out-le (part 0 step out) answer new → new ++ drop (step - 0) (drop 0 out) ≡ filled step (storedAt width out-le (wordsOf width le raw)) out
+pub led : (raw out new : List ℕ) (step width : ℕ) (le out-le : Bool) (answer : Done) → LeadFits raw step width out → Reordered (part 0 step raw) width le out-le (part 0 step out) answer new → new ++ drop (step - 0) (drop 0 out) ≡ filled step (storedAt width out-le (wordOf width le raw)) out
 led raw out new step width le out-le answer fits p =
     let front = part 0 step raw in
     let long : length front ≡ step - 0 = length-part 0 step raw (omega arith) (fits .within) in
@@ -32,11 +32,11 @@ led raw out new step width le out-le answer fits p =
     let none-taken : step - 0 ≡ step = omega arith in
     let words : length front % width ≡ 0 = rw (long, none-taken) (fits .words) in
     let sound : Sound (reorderFaults front width (part 0 step out)) = next (ap not (fits .takes)) (next (ap not (eq-eqb _ _ words)) (next (le-ltb (length (part 0 step out)) (length front) (omega arith)) none)) in
-    let stored = storedAt width out-le (wordsOf width le raw) in
+    let stored = storedAt width out-le (wordOf width le raw) in
     let all : new ≡ table (step - 0) (λ k. stored (0 + k)) =
-    finished (reorderFaults front width (part 0 step out)) tt (length front) (storedAt width out-le (wordsOf width le front)) (part 0 step out) new sound p
+    finished (reorderFaults front width (part 0 step out)) tt (length front) (storedAt width out-le (wordOf width le front)) (part 0 step out) new sound p
     ∙ filled-all (length front) _ (part 0 step out) (omega arith)
-    ∙ ap (λ (n : ℕ). table n (storedAt width out-le (wordsOf width le front))) long
+    ∙ ap (λ (n : ℕ). table n (storedAt width out-le (wordOf width le front))) long
     ∙ table-same (step - 0) _ _ (λ k h. rw zero-add (ap (digit 256 (turn out-le width (k % width))) (part-word raw 0 step (k / width * width) width le (word-room (step - 0) width k (rw none-taken (fits .words)) h) ∙ ap (λ (i : ℕ). wordAt raw i width le) (zero-add (k / width * width))))) in
     part-filled stored 0 step out out new (omega arith) refl all
 
@@ -44,17 +44,17 @@ module _ (raw : List ℕ) (b : Bytes raw) (channels width : ℕ) (some : 0 < wid
   first : alone (oneRow raw channels width) true (k / width) ≡ true
   first = lt-ltb (k / width % (length raw / width)) channels (omega (arith, mod-le (k / width) (length raw / width), div-lt-iff-lt-mul {k = width} {x = k} {y = channels} some .1 h))
 
-  itself : wordsOf width le raw (k / width) % modulus width ≡ wordsOf width le raw (k / width)
+  itself : wordOf width le raw (k / width) % modulus width ≡ wordOf width le raw (k / width)
   itself = mod-eq-of-lt (word-below raw (k / width * width) width le b)
 
-  pub first-undone : storedAt width out-le (wordsOf width le raw) k ≡ undoneAt raw channels width le out-le k
+  pub first-undone : storedAt width out-le (wordOf width le raw) k ≡ undoneAt raw channels width le out-le k
   first-undone = ap (digit 256 (turn out-le width (k % width))) (sym (sample-alone (oneRow raw channels width) true le raw (k / width) first ∙ itself))
 
-  pub first-predicted : storedAt width out-le (wordsOf width le raw) k ≡ predictedAt raw channels width le out-le k
+  pub first-predicted : storedAt width out-le (wordOf width le raw) k ≡ predictedAt raw channels width le out-le k
   first-predicted = ap (digit 256 (turn out-le width (k % width))) (sym (difference-alone (oneRow raw channels width) true le raw (k / width) first ∙ itself))
 
 -- going on from the first words, whatever the rest is
-module _ (f : ℕ → ℕ) (raw : List ℕ) (channels width : ℕ) (le out-le : Bool) (old mid : List ℕ) (row : RowServed raw channels width old) (agree : (k : ℕ) → k < channels * width → storedAt width out-le (wordsOf width le raw) k ≡ f k) (is : LedInto raw (channels * width) width le out-le old mid) where
+module _ (f : ℕ → ℕ) (raw : List ℕ) (channels width : ℕ) (le out-le : Bool) (old mid : List ℕ) (row : RowServed raw channels width old) (agree : (k : ℕ) → k < channels * width → storedAt width out-le (wordOf width le raw) k ≡ f k) (is : LedInto raw (channels * width) width le out-le old mid) where
   begun : mid ≡ filled (channels * width) f old
   begun = is ∙ filled-same (channels * width) _ f old agree
 

@@ -30,7 +30,7 @@ pub record Upto (v : ℕ → ℕ) (width : ℕ) (out-le : Bool) (raw old : List 
 pub upto-none : (v : ℕ → ℕ) (width : ℕ) (out-le : Bool) (raw old : List ℕ) → Upto v width out-le raw old 0 old
 upto-none v width out-le raw old = record { inside = omega arith; words = zero-mod width; same = refl; so-far = refl }
 
-module _ (v : ℕ → ℕ) (width : ℕ) (out-le : Bool) (raw old : List ℕ) (at : ℕ) (out : List ℕ) (is : Upto v width out-le raw old at out) where
+module _ {v : ℕ → ℕ} {width : ℕ} {out-le : Bool} {raw old : List ℕ} {at : ℕ} {out : List ℕ} (is : Upto v width out-le raw old at out) where
   -- `at` in words
   pub back-at : at / width * width ≡ at
   back-at = omega (arith, div-add-mod' at width, is .words)
@@ -67,37 +67,37 @@ pub carried-none : (raw : List ℕ) (width : ℕ) (le : Bool) → carried raw wi
 unfolding carried
 carried-none raw width le = rw (zero-div width)
 
-carried-on : (raw : List ℕ) (width : ℕ) (le : Bool) (n : ℕ) → n < length raw / width → sample (oneRow raw 1 width) true le raw n ≡ plus width (wordOf (oneRow raw 1 width) le raw n) (carried raw width le n)
+carried-on : (raw : List ℕ) (width : ℕ) (le : Bool) (n : ℕ) → n < length raw / width → sample (oneRow raw 1 width) true le raw n ≡ plus width (wordOf width le raw n) (carried raw width le n)
 unfolding carried
 carried-on raw width le zero h =
-    sample-alone (oneRow raw 1 width) true le raw 0 (first-alone (oneRow raw 1 width) true (omega arith)) ∙ ap (λ (x : ℕ). x % modulus width) (sym (add-zero (wordOf (oneRow raw 1 width) le raw 0)))
+    sample-alone (oneRow raw 1 width) true le raw 0 (first-alone (oneRow raw 1 width) true (omega arith)) ∙ ap (λ (x : ℕ). x % modulus width) (sym (add-zero (wordOf width le raw 0)))
 carried-on raw width le (suc n) h =
     sample-later (oneRow raw 1 width) true le raw (suc n) (omega arith) (later raw 1 width (suc n) h (omega arith))
-    ∙ ap (λ (m : ℕ). plus width (wordOf (oneRow raw 1 width) le raw (suc n)) (sample (oneRow raw 1 width) true le raw m)) (omega arith)
+    ∙ ap (λ (m : ℕ). plus width (wordOf width le raw (suc n)) (sample (oneRow raw 1 width) true le raw m)) (omega arith)
 
-module _ (raw : List ℕ) (width : ℕ) (le out-le : Bool) (old : List ℕ) (at : ℕ) (out : List ℕ) (sum : ℕ) (fits : RowFits raw 1 width old) (is : Upto (sample (oneRow raw 1 width) true le raw) width out-le raw old at out) (carry : sum ≡ carried raw width le (at / width)) where
+module _ (le : Bool) {raw : List ℕ} {width : ℕ} {out-le : Bool} {old : List ℕ} {at : ℕ} {out : List ℕ} {sum : ℕ} (fits : RowFits raw 1 width old) (is : Upto (sample (oneRow raw 1 width) true le raw) width out-le raw old at out) (carry : sum ≡ carried raw width le (at / width)) where
   whole-words : length raw % width ≡ 0
   whole-words = rw one-mul at (fits .groups)
 
   pub sum-room : at < length raw → at + width ≤ length raw
-  sum-room more = turn-room (sample (oneRow raw 1 width) true le raw) width out-le raw old at out is whole-words more
+  sum-room more = turn-room is whole-words more
 
   -- the sum after a turn is the sample
   pub summed-on : at < length raw → (x : ℕ) → x ≡ plus width (wordAt raw at width le) sum → x ≡ sample (oneRow raw 1 width) true le raw (at / width)
   summed-on more x e =
       let v = sample (oneRow raw 1 width) true le raw in
-      let here : wordOf (oneRow raw 1 width) le raw (at / width) ≡ wordAt raw at width le = ap (λ (k : ℕ). wordAt raw k width le) (back-at v width out-le raw old at out is) in
-      e ∙ rw (carry, ← here) (sym (carried-on raw width le (at / width) (in-words v width out-le raw old at out is whole-words more (fits .wide))))
+      let here : wordOf width le raw (at / width) ≡ wordAt raw at width le = ap (λ (k : ℕ). wordAt raw k width le) (back-at is) in
+      e ∙ rw (carry, ← here) (sym (carried-on raw width le (at / width) (in-words is whole-words more (fits .wide))))
 
   pub sum-turned : at < length raw → (x : ℕ) (new : List ℕ) → x ≡ plus width (wordAt raw at width le) sum → Put out at width out-le x new → Upto (sample (oneRow raw 1 width) true le raw) width out-le raw old (at + width) new
-  sum-turned more x new e put = turned (sample (oneRow raw 1 width) true le raw) width out-le raw old at out is whole-words more (fits .room) x new (summed-on more x e) put
+  sum-turned more x new e put = turned is whole-words more (fits .room) x new (summed-on more x e) put
 
   pub sum-carried : at < length raw → (x : ℕ) → x ≡ plus width (wordAt raw at width le) sum → x ≡ carried raw width le ((at + width) / width)
   unfolding carried
   sum-carried more x e = rw (add-div-right at (fits .wide), add-one) (summed-on more x e)
 
 -- several channels: word n, with the sample or the word `channels` before it, step bytes back
-module _ (raw : List ℕ) (channels width : ℕ) (le out-le : Bool) (old : List ℕ) (at : ℕ) (out : List ℕ) (v : ℕ → ℕ) (fits : RowFits raw channels width old) (is : Upto v width out-le raw old at out) (past : channels * width ≤ at) where
+module _ {raw : List ℕ} {channels width : ℕ} {out-le : Bool} {old : List ℕ} {at : ℕ} {out : List ℕ} {v : ℕ → ℕ} (fits : RowFits raw channels width old) (is : Upto v width out-le raw old at out) (past : channels * width ≤ at) where
   words-whole : length raw % width ≡ 0
   words-whole = groups-words (length raw) channels width (fits .groups)
 
@@ -108,20 +108,20 @@ module _ (raw : List ℕ) (channels width : ℕ) (le out-le : Bool) (old : List 
   step-back =
       mul-comm (at / width - channels) width
       ∙ mul-sub width (at / width) channels
-      ∙ omega (arith, mul-comm width (at / width), mul-comm width channels, back-at v width out-le raw old at out is)
+      ∙ omega (arith, mul-comm width (at / width), mul-comm width channels, back-at is)
 
   module _ (more : at < length raw) where
     pub trail-room : at + width ≤ length raw
-    trail-room = turn-room v width out-le raw old at out is words-whole more
+    trail-room = turn-room is words-whole more
 
     pub trail-later : alone (oneRow raw channels width) true (at / width) ≡ false
-    trail-later = later raw channels width (at / width) (in-words v width out-le raw old at out is words-whole more (fits .wide)) deep-words
+    trail-later = later raw channels width (at / width) (in-words is words-whole more (fits .wide)) deep-words
 
-    pub word-here : wordOf (oneRow raw channels width) le raw (at / width) ≡ wordAt raw at width le
-    word-here = ap (λ (k : ℕ). wordAt raw k width le) (back-at v width out-le raw old at out is)
+    pub word-here : (le : Bool) → wordOf width le raw (at / width) ≡ wordAt raw at width le
+    word-here le = ap (λ (k : ℕ). wordAt raw k width le) (back-at is)
 
-    pub word-before : wordOf (oneRow raw channels width) le raw (at / width - channels) ≡ wordAt raw (at - channels * width) width le
-    word-before = ap (λ (k : ℕ). wordAt raw k width le) step-back
+    pub word-before : (le : Bool) → wordOf width le raw (at / width - channels) ≡ wordAt raw (at - channels * width) width le
+    word-before le = ap (λ (k : ℕ). wordAt raw k width le) step-back
 
     -- what is read back from the buffer is the word stored there
     pub stored-before : v (at / width - channels) < modulus width → wordAt out (at - channels * width) width out-le ≡ v (at / width - channels)
@@ -133,26 +133,26 @@ module _ (raw : List ℕ) (channels width : ℕ) (le out-le : Bool) (old : List 
         ∙ (rw step-back at (stored-byte width out-le v (at / width - channels) p h)))
         ∙ mod-eq-of-lt small
 
-module _ (raw : List ℕ) (channels width : ℕ) (le out-le : Bool) (old : List ℕ) (at : ℕ) (out : List ℕ) (fits : RowFits raw channels width old) (past : channels * width ≤ at) (more : at < length raw) where
+module _ (le : Bool) {raw : List ℕ} {channels width : ℕ} {out-le : Bool} {old : List ℕ} {at : ℕ} {out : List ℕ} (fits : RowFits raw channels width old) (past : channels * width ≤ at) (more : at < length raw) where
   pub trail-turned : Upto (sample (oneRow raw channels width) true le raw) width out-le raw old at out → (x : ℕ) (new : List ℕ) → x ≡ plus width (wordAt raw at width le) (wordAt out (at - channels * width) width out-le) → Put out at width out-le x new → Upto (sample (oneRow raw channels width) true le raw) width out-le raw old (at + width) new
   trail-turned is x new e put =
       let v = sample (oneRow raw channels width) true le raw in
       let n = at / width in
       let small = sample-below (oneRow raw channels width) true le raw (fits .channel) (n - channels) in
-      turned v width out-le raw old at out is (groups-words (length raw) channels width (fits .groups)) more (fits .room) x new
+      turned is (groups-words (length raw) channels width (fits .groups)) more (fits .room) x new
       (e
-      ∙ rw (stored-before raw channels width le out-le old at out v fits is past more small, ← word-here raw channels width le out-le old at out v fits is past more)
-      (sym (sample-later (oneRow raw channels width) true le raw n (fits .channel) (trail-later raw channels width le out-le old at out v fits is past more))))
+      ∙ rw (stored-before fits is past more small, ← word-here fits is past more le)
+      (sym (sample-later (oneRow raw channels width) true le raw n (fits .channel) (trail-later fits is past more))))
       put
 
   pub difference-turned : Upto (difference (oneRow raw channels width) true le raw) width out-le raw old at out → (x : ℕ) (new : List ℕ) → x ≡ minus width (wordAt raw at width le) (wordAt raw (at - channels * width) width le) → Put out at width out-le x new → Upto (difference (oneRow raw channels width) true le raw) width out-le raw old (at + width) new
   difference-turned is x new e put =
       let v = difference (oneRow raw channels width) true le raw in
       let n = at / width in
-      turned v width out-le raw old at out is (groups-words (length raw) channels width (fits .groups)) more (fits .room) x new
+      turned is (groups-words (length raw) channels width (fits .groups)) more (fits .room) x new
       (e
-      ∙ rw (← word-before raw channels width le out-le old at out v fits is past more, ← word-here raw channels width le out-le old at out v fits is past more)
-      (sym (difference-later (oneRow raw channels width) true le raw n (trail-later raw channels width le out-le old at out v fits is past more))))
+      ∙ rw (← word-before fits is past more le, ← word-here fits is past more le)
+      (sym (difference-later (oneRow raw channels width) true le raw n (trail-later fits is past more))))
       put
 
 -- a row whose first words are written begins past them

@@ -9,9 +9,9 @@ use Rattle.answer.specs.Table.{table, filled, stores}
 use Rattle.answer.specs.declared.Done.{Done}
 use Rattle.words.specs.Digits.{digit}
 use Rattle.words.specs.Word.{turn}
-use Rattle.strips.specs.Sample.{Strip, strip, sample, difference, storedAt}
+use Rattle.strips.specs.Sample.{wordOf, Strip, strip, sample, difference, storedAt}
 use Rattle.words.specs.Promises.{served}
-use Rattle.strips.specs.Promises.{Converted, Forwarded, wordsOf}
+use Rattle.strips.specs.Promises.{Converted, Forwarded}
 
 -- a row as a strip
 abbrev pub oneRow : List ℕ → ℕ → ℕ → Strip
@@ -65,4 +65,4 @@ pub record LeadFits (raw : List ℕ) (step width : ℕ) (out : List ℕ) : Type 
   pub room : step ≤ length out
 
 abbrev pub LedInto : List ℕ → ℕ → ℕ → Bool → Bool → List ℕ → List ℕ → Type 0
-LedInto raw step width le out-le old new = new ≡ filled step (storedAt width out-le (wordsOf width le raw)) old
+LedInto raw step width le out-le old new = new ≡ filled step (storedAt width out-le (wordOf width le raw)) old

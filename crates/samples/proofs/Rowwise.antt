@@ -13,8 +13,7 @@ use Rattle.words.specs.Digits.{digit}
 use Rattle.words.specs.Word.{turn, Bytes}
 use Rattle.words.proofs.Words.{word-below}
 use Rattle.swaps.proofs.Mirror.{group-room}
-use Rattle.strips.specs.Sample.{Strip, strip, storedAt}
-use Rattle.strips.specs.Promises.{wordsOf}
+use Rattle.strips.specs.Sample.{wordOf, Strip, strip, storedAt}
 use Rattle.strips.proofs.Sums.{sample-alone, difference-alone}
 use Rattle.strips.proofs.Strips.{good-checked, row-checked}
 use Rattle.strips.proofs.Parts.{part-samples, part-differences}
@@ -29,7 +28,7 @@ pub record Rowwise (raw : List ℕ) (g : Strip) (le out-le forward : Bool) (old 
 pub rowwise-none : (raw : List ℕ) (g : Strip) (le out-le forward : Bool) (old : List ℕ) → Rowwise raw g le out-le forward old 0 old
 rowwise-none raw g le out-le forward old = record { inside = omega arith; rows = zero-mod (g .row); same = refl; so-far = refl }
 
-module _ (raw : List ℕ) (g : Strip) (le out-le forward : Bool) (old : List ℕ) (at : ℕ) (out : List ℕ) (served : Served raw g old) (is : Rowwise raw g le out-le forward old at out) where
+module _ {raw : List ℕ} {g : Strip} {le out-le forward : Bool} {old : List ℕ} {at : ℕ} {out : List ℕ} (served : Served raw g old) (is : Rowwise raw g le out-le forward old at out) where
   pub row-some : 0 < g .row
   row-some = good-checked (length raw) g (served .sound) .long
 
@@ -69,9 +68,9 @@ module _ (raw : List ℕ) (g : Strip) (le out-le forward : Bool) (old : List ℕ
   rows-ended l = let all : at ≡ length raw = omega (arith, is .inside) in rw all at (is .so-far)
 
 -- without prediction every word stands for itself
-pub unpredicted : (raw : List ℕ) (b : Bytes raw) (g : Strip) (le out-le forward : Bool) (old : List ℕ) → filled (length raw) (storedAt (g .width) out-le (wordsOf (g .width) le raw)) old ≡ filled (length raw) (storedAt (g .width) out-le (meant forward g false le raw)) old
+pub unpredicted : (raw : List ℕ) (b : Bytes raw) (g : Strip) (le out-le forward : Bool) (old : List ℕ) → filled (length raw) (storedAt (g .width) out-le (wordOf (g .width) le raw)) old ≡ filled (length raw) (storedAt (g .width) out-le (meant forward g false le raw)) old
 unpredicted raw b g le out-le forward old = filled-same (length raw) _ _ old (λ k h. ap (digit 256 (turn out-le (g .width) (k % g .width))) (by forward (k / g .width)))
   where
-    by : (f : Bool) (n : ℕ) → wordsOf (g .width) le raw n ≡ meant f g false le raw n
+    by : (f : Bool) (n : ℕ) → wordOf (g .width) le raw n ≡ meant f g false le raw n
     by true n = sym (difference-alone g false le raw n refl ∙ mod-eq-of-lt (word-below raw (n * g .width) (g .width) le b))
     by false n = sym (sample-alone g false le raw n refl ∙ mod-eq-of-lt (word-below raw (n * g .width) (g .width) le b))

@@ -38,7 +38,7 @@ module _ (raw : List ℕ) (g : Strip) (good : Good (length raw) g) (le out-le : 
       let whole : at / g .width ≡ at / g .row * (g .row / g .width) = sym (mul-div-cancel (at / g .width) (good .wide)) ∙ ap (λ (x : ℕ). x / g .width) (sym same) ∙ mul-div-cancel (at / g .row * (g .row / g .width)) (good .wide) in
       rw whole (mul-mod-left (at / g .row) (g .row / g .width))
 
-  words-agree : (m : ℕ) → m < g .row / g .width → wordOf g le raw (at / g .width + m) ≡ wordOf g le rowPart (0 + m)
+  words-agree : (m : ℕ) → m < g .row / g .width → wordOf (g .width) le raw (at / g .width + m) ≡ wordOf (g .width) le rowPart (0 + m)
   words-agree m h =
       let next-word : suc m * g .width ≤ g .row = rw (per-row (length raw) g good) at (mul-le-mul-right (g .width) h) in
       let there : m * g .width + g .width ≤ at + g .row - at = omega (arith, next-word, suc-mul m (g .width)) in

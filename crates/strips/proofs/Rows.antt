@@ -16,7 +16,7 @@ use Rattle.strips.proofs.Sums.{in-row, sample-alone, sample-later, diff
 use Rattle.strips.proofs.Strips.{per-row, width-fits}
 
 -- two rows: i and j are where they begin, counted in samples
-module _ (g : Strip) (some : 0 < g .channels) (predict le : Bool) (s t : List ℕ) (i j : ℕ) (hi : i % (g .row / g .width) ≡ 0) (hj : j % (g .row / g .width) ≡ 0) (words : (m : ℕ) → m < g .row / g .width → wordOf g le s (i + m) ≡ wordOf g le t (j + m)) where
+module _ (g : Strip) (some : 0 < g .channels) (predict le : Bool) (s t : List ℕ) (i j : ℕ) (hi : i % (g .row / g .width) ≡ 0) (hj : j % (g .row / g .width) ≡ 0) (words : (m : ℕ) → m < g .row / g .width → wordOf (g .width) le s (i + m) ≡ wordOf (g .width) le t (j + m)) where
   -- a place is alone in both or in neither
   alike : (m : ℕ) → m < g .row / g .width → alone g predict (i + m) ≡ alone g predict (j + m)
   alike m h = ap (λ (x : ℕ). not predict || ltb x (g .channels)) (into-group (g .row / g .width) i m hi h ∙ sym (into-group (g .row / g .width) j m hj h))

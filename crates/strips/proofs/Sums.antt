@@ -40,21 +40,21 @@ module _ (g : Strip) (predict : Bool) (some : 0 < g .channels) where
       ap (λ (x : ℕ). pick (alone g predict n) (w n % modulus (g .width)) (plus (g .width) (w n) x)) (enough w a b (n - g .channels) (omega arith) (omega arith))
 
 module _ (g : Strip) (predict le : Bool) (raw : List ℕ) where
-  pub sample-alone : (n : ℕ) → alone g predict n ≡ true → sample g predict le raw n ≡ wordOf g le raw n % modulus (g .width)
+  pub sample-alone : (n : ℕ) → alone g predict n ≡ true → sample g predict le raw n ≡ wordOf (g .width) le raw n % modulus (g .width)
   unfolding sample
   sample-alone zero e = refl
   sample-alone (suc n) e = rw e
 
-  pub sample-later : (n : ℕ) → 0 < g .channels → alone g predict n ≡ false → sample g predict le raw n ≡ plus (g .width) (wordOf g le raw n) (sample g predict le raw (n - g .channels))
+  pub sample-later : (n : ℕ) → 0 < g .channels → alone g predict n ≡ false → sample g predict le raw n ≡ plus (g .width) (wordOf (g .width) le raw n) (sample g predict le raw (n - g .channels))
   unfolding sample
   sample-later zero some e = absurd (omega (arith, not-alone g predict 0 e))
   sample-later (suc n) some e =
-      rw e (ap (plus (g .width) (wordOf g le raw (suc n))) (enough g predict some (wordOf g le raw) n (suc n - g .channels) (suc n - g .channels) (omega arith) (omega arith)))
+      rw e (ap (plus (g .width) (wordOf (g .width) le raw (suc n))) (enough g predict some (wordOf (g .width) le raw) n (suc n - g .channels) (suc n - g .channels) (omega arith) (omega arith)))
 
-  pub difference-alone : (n : ℕ) → alone g predict n ≡ true → difference g predict le raw n ≡ wordOf g le raw n % modulus (g .width)
+  pub difference-alone : (n : ℕ) → alone g predict n ≡ true → difference g predict le raw n ≡ wordOf (g .width) le raw n % modulus (g .width)
   unfolding difference
   difference-alone n e = rw e
 
-  pub difference-later : (n : ℕ) → alone g predict n ≡ false → difference g predict le raw n ≡ minus (g .width) (wordOf g le raw n) (wordOf g le raw (n - g .channels))
+  pub difference-later : (n : ℕ) → alone g predict n ≡ false → difference g predict le raw n ≡ minus (g .width) (wordOf (g .width) le raw n) (wordOf (g .width) le raw (n - g .channels))
   unfolding difference
   difference-later n e = rw e

@@ -23,18 +23,18 @@ pub sample-below : (g : Strip) (predict le : Bool) (raw : List ℕ) → 0 < g .c
 sample-below g predict le raw some n = by (alone g predict n) refl
   where
     by : (b : Bool) → alone g predict n ≡ b → sample g predict le raw n < modulus (g .width)
-    by true e = rw (sample-alone g predict le raw n e) (mod-lt (wordOf g le raw n) (modulus-pos (g .width)))
-    by false e = rw (sample-later g predict le raw n some e) (plus-below (g .width) (wordOf g le raw n) (sample g predict le raw (n - g .channels)))
+    by true e = rw (sample-alone g predict le raw n e) (mod-lt (wordOf (g .width) le raw n) (modulus-pos (g .width)))
+    by false e = rw (sample-later g predict le raw n some e) (plus-below (g .width) (wordOf (g .width) le raw n) (sample g predict le raw (n - g .channels)))
 
 pub difference-below : (g : Strip) (predict le : Bool) (raw : List ℕ) (n : ℕ) → difference g predict le raw n < modulus (g .width)
 difference-below g predict le raw n = by (alone g predict n) refl
   where
     by : (b : Bool) → alone g predict n ≡ b → difference g predict le raw n < modulus (g .width)
-    by true e = rw (difference-alone g predict le raw n e) (mod-lt (wordOf g le raw n) (modulus-pos (g .width)))
-    by false e = rw (difference-later g predict le raw n e) (minus-below (g .width) (wordOf g le raw n) (wordOf g le raw (n - g .channels)))
+    by true e = rw (difference-alone g predict le raw n e) (mod-lt (wordOf (g .width) le raw n) (modulus-pos (g .width)))
+    by false e = rw (difference-later g predict le raw n e) (minus-below (g .width) (wordOf (g .width) le raw n) (wordOf (g .width) le raw (n - g .channels)))
 
 module _ (g : Strip) (predict le out-le : Bool) (raw : List ℕ) (good : Good (length raw) g) (b : Bytes raw) where
-  word-fits : (n : ℕ) → wordOf g le raw n < modulus (g .width)
+  word-fits : (n : ℕ) → wordOf (g .width) le raw n < modulus (g .width)
   word-fits n = word-below raw (n * g .width) (g .width) le b
 
   back-room : (n : ℕ) → n * g .width + g .width ≤ length raw → (n - g .channels) * g .width + g .width ≤ length raw
@@ -44,15 +44,15 @@ module _ (g : Strip) (predict le out-le : Bool) (raw : List ℕ) (good : Good (l
   forwarded : List ℕ
   forwarded = table (length raw) (storedAt (g .width) out-le (difference g predict le raw))
 
-  word-forwarded : (n : ℕ) → n * g .width + g .width ≤ length raw → wordOf g out-le forwarded n ≡ difference g predict le raw n
+  word-forwarded : (n : ℕ) → n * g .width + g .width ≤ length raw → wordOf (g .width) out-le forwarded n ≡ difference g predict le raw n
   unfolding forwarded
   word-forwarded n room = stored-word (length raw) (g .width) out-le (difference g predict le raw) n room ∙ mod-eq-of-lt (difference-below g predict le raw n)
 
-  read-back : (more n : ℕ) → n < more → n * g .width + g .width ≤ length raw → sample g predict out-le forwarded n ≡ wordOf g le raw n
+  read-back : (more n : ℕ) → n < more → n * g .width + g .width ≤ length raw → sample g predict out-le forwarded n ≡ wordOf (g .width) le raw n
   read-back zero n l room = absurd (omega arith)
   read-back (suc more) n l room = by (alone g predict n) refl (read-back more (n - g .channels))
     where
-      by : (a : Bool) → alone g predict n ≡ a → (n - g .channels < more → (n - g .channels) * g .width + g .width ≤ length raw → sample g predict out-le forwarded (n - g .channels) ≡ wordOf g le raw (n - g .channels)) → sample g predict out-le forwarded n ≡ wordOf g le raw n
+      by : (a : Bool) → alone g predict n ≡ a → (n - g .channels < more → (n - g .channels) * g .width + g .width ≤ length raw → sample g predict out-le forwarded (n - g .channels) ≡ wordOf (g .width) le raw (n - g .channels)) → sample g predict out-le forwarded n ≡ wordOf (g .width) le raw n
       by true e back =
           sample-alone g predict out-le forwarded n e
           ∙ ap (λ (x : ℕ). x % modulus (g .width)) (word-forwarded n room ∙ difference-alone g predict le raw n e ∙ mod-eq-of-lt (word-fits n))
@@ -60,20 +60,20 @@ module _ (g : Strip) (predict le out-le : Bool) (raw : List ℕ) (good : Good (l
       by false e back =
           let earlier = back (omega (arith, not-alone g predict n e, good .channel)) (back-room n room) in
           sample-later g predict out-le forwarded n (good .channel) e
-          ∙ rw (word-forwarded n room, earlier, difference-later g predict le raw n e) (minus-plus (g .width) (wordOf g le raw n) (wordOf g le raw (n - g .channels)) (word-fits n) (word-fits (n - g .channels)))
+          ∙ rw (word-forwarded n room, earlier, difference-later g predict le raw n e) (minus-plus (g .width) (wordOf (g .width) le raw n) (wordOf (g .width) le raw (n - g .channels)) (word-fits n) (word-fits (n - g .channels)))
 
   -- what conversion writes, and what forward prediction makes of it
   converted : List ℕ
   converted = table (length raw) (storedAt (g .width) out-le (sample g predict le raw))
 
-  word-converted : (n : ℕ) → n * g .width + g .width ≤ length raw → wordOf g out-le converted n ≡ sample g predict le raw n
+  word-converted : (n : ℕ) → n * g .width + g .width ≤ length raw → wordOf (g .width) out-le converted n ≡ sample g predict le raw n
   unfolding converted
   word-converted n room = stored-word (length raw) (g .width) out-le (sample g predict le raw) n room ∙ mod-eq-of-lt (sample-below g predict le raw (good .channel) n)
 
-  taken-back : (n : ℕ) → n * g .width + g .width ≤ length raw → difference g predict out-le converted n ≡ wordOf g le raw n
+  taken-back : (n : ℕ) → n * g .width + g .width ≤ length raw → difference g predict out-le converted n ≡ wordOf (g .width) le raw n
   taken-back n room = by (alone g predict n) refl
     where
-      by : (a : Bool) → alone g predict n ≡ a → difference g predict out-le converted n ≡ wordOf g le raw n
+      by : (a : Bool) → alone g predict n ≡ a → difference g predict out-le converted n ≡ wordOf (g .width) le raw n
       by true e =
           difference-alone g predict out-le converted n e
           ∙ ap (λ (x : ℕ). x % modulus (g .width)) (word-converted n room ∙ sample-alone g predict le raw n e ∙ mod-eq-of-lt (word-fits n))
@@ -81,18 +81,18 @@ module _ (g : Strip) (predict le out-le : Bool) (raw : List ℕ) (good : Good (l
       by false e =
           difference-later g predict out-le converted n e
           ∙ rw (word-converted n room, word-converted (n - g .channels) (back-room n room), sample-later g predict le raw n (good .channel) e)
-          (plus-minus (g .width) (wordOf g le raw n) (sample g predict le raw (n - g .channels)) (word-fits n) (sample-below g predict le raw (good .channel) (n - g .channels)))
+          (plus-minus (g .width) (wordOf (g .width) le raw n) (sample g predict le raw (n - g .channels)) (word-fits n) (sample-below g predict le raw (good .channel) (n - g .channels)))
 
   pub forward-converted : table (length raw) (storedAt (g .width) le (sample g predict out-le (table (length raw) (storedAt (g .width) out-le (difference g predict le raw))))) ≡ raw
   unfolding forwarded
   forward-converted =
-      stored-same (length raw) (g .width) le _ (wordOf g le raw) (bytes-words (length raw) g good) (λ n room. read-back (suc n) n (omega arith) room)
+      stored-same (length raw) (g .width) le _ (wordOf (g .width) le raw) (bytes-words (length raw) g good) (λ n room. read-back (suc n) n (omega arith) room)
       ∙ stored-self (g .width) le raw (good .wide) b
 
   pub converted-forward : table (length raw) (storedAt (g .width) le (difference g predict out-le (table (length raw) (storedAt (g .width) out-le (sample g predict le raw))))) ≡ raw
   unfolding converted
   converted-forward =
-      stored-same (length raw) (g .width) le _ (wordOf g le raw) (bytes-words (length raw) g good) taken-back
+      stored-same (length raw) (g .width) le _ (wordOf (g .width) le raw) (bytes-words (length raw) g good) taken-back
       ∙ stored-self (g .width) le raw (good .wide) b
 
 -- what a call that is done has shown of the strip

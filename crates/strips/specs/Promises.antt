@@ -8,9 +8,8 @@ use lib.Dec.{eqb, ltb}
 use Rattle.answer.specs.Outcome.{Fault, unless, unsupported, invalid, outputTooSmall, Promise, doneOutcome}
 use Rattle.answer.specs.Table.{table}
 use Rattle.answer.specs.declared.Done.{Done}
-use Rattle.words.specs.Word.{wordAt}
 use Rattle.words.specs.Promises.{served}
-use Rattle.strips.specs.Sample.{Strip, sample, difference, storedAt}
+use Rattle.strips.specs.Sample.{Strip, wordOf, sample, difference, storedAt}
 
 -- the faults of a strip's geometry
 abbrev pub stripFaults : ℕ → Strip → List Fault
@@ -48,9 +47,6 @@ abbrev pub reorderFaults : List ℕ → ℕ → List ℕ → List Fault
 reorderFaults raw width old =
     unsupported (not (served width)) ∷ invalid (not (eqb (length raw % width) 0)) ∷ outputTooSmall (ltb (length old) (length raw)) ∷ []
 
-abbrev pub wordsOf : ℕ → Bool → List ℕ → ℕ → ℕ
-wordsOf width le raw n = wordAt raw (n * width) width le
-
 abbrev pub Reordered : List ℕ → ℕ → Bool → Bool → List ℕ → Done → List ℕ → Type 0
 Reordered raw width le out-le old answer new =
-    Promise (unless (reorderFaults raw width old) tt) (table (length raw) (storedAt width out-le (wordsOf width le raw))) old (doneOutcome answer) new
+    Promise (unless (reorderFaults raw width old) tt) (table (length raw) (storedAt width out-le (wordOf width le raw))) old (doneOutcome answer) new

@@ -28,17 +28,17 @@ summed g predict w zero n = w n % modulus (g .width)
 summed g predict w (suc more) n =
     pick (alone g predict n) (w n % modulus (g .width)) (plus (g .width) (w n) (summed g predict w more (n - g .channels)))
 
--- input word n of a strip of bytes
-abbrev pub wordOf : Strip → Bool → List ℕ → ℕ → ℕ
-wordOf g le raw n = wordAt raw (n * g .width) (g .width) le
+-- word n of a list of bytes
+abbrev pub wordOf : ℕ → Bool → List ℕ → ℕ → ℕ
+wordOf width le raw n = wordAt raw (n * width) width le
 
 unfoldable pub sample : Strip → Bool → Bool → List ℕ → ℕ → ℕ
-sample g predict le raw n = summed g predict (wordOf g le raw) n n
+sample g predict le raw n = summed g predict (wordOf (g .width) le raw) n n
 
 -- word n of what forward prediction writes
 unfoldable pub difference : Strip → Bool → Bool → List ℕ → ℕ → ℕ
 difference g predict le raw n =
-    pick (alone g predict n) (wordOf g le raw n % modulus (g .width)) (minus (g .width) (wordOf g le raw n) (wordOf g le raw (n - g .channels)))
+    pick (alone g predict n) (wordOf (g .width) le raw n % modulus (g .width)) (minus (g .width) (wordOf (g .width) le raw n) (wordOf (g .width) le raw (n - g .channels)))
 
 -- byte k of the words v, stored in a byte order: digit k mod width, turned for big-endian, of word k / width
 abbrev pub storedAt : ℕ → Bool → (ℕ → ℕ) → ℕ → ℕ

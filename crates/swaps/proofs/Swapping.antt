@@ -19,7 +19,7 @@ pub record Swapping (raw : List ℕ) (width : ℕ) (old : List ℕ) (at : ℕ) (
 pub begun : (raw : List ℕ) (width : ℕ) (old : List ℕ) → Swapping raw width old 0 old
 begun raw width old = record { inside = omega arith; groups = zero-mod width; same = refl; so-far = refl }
 
-module _ (raw : List ℕ) (width : ℕ) (old : List ℕ) (at : ℕ) (out : List ℕ) (fits : SwapFits raw width old) (is : Swapping raw width old at out) where
+module _ {raw : List ℕ} {width : ℕ} {old : List ℕ} {at : ℕ} {out : List ℕ} (fits : SwapFits raw width old) (is : Swapping raw width old at out) where
   pub room : at < length raw → at + width ≤ length raw
   room l = group-room width (length raw) at (fits .groups) (is .groups) l
 
@@ -48,7 +48,7 @@ pub walk-begun : (raw : List ℕ) (width : ℕ) (old : List ℕ) → 0 < width �
 walk-begun raw width old some =
     record { inside = omega arith; groups = zero-mod width; within = omega arith; facing = refl; same = refl; so-far = refl }
 
-module _ (raw : List ℕ) (width : ℕ) (old : List ℕ) (at back k : ℕ) (out : List ℕ) (fits : SwapFits raw width old) (is : Walking raw width old at back k out) where
+module _ {raw : List ℕ} {width : ℕ} {old : List ℕ} {at back k : ℕ} {out : List ℕ} (fits : SwapFits raw width old) (is : Walking raw width old at back k out) where
   -- the byte to fetch is there
   pub walk-room : k < length raw → at + back < length raw
   walk-room l = let open-group = group-room width (length raw) at (fits .groups) (is .groups) (omega arith) in omega arith

@@ -9,8 +9,8 @@ use denote.Ref.{now}
 use Rattle.answer.specs.Outcome.{next, none}
 use Rattle.answer.proofs.Promised.{finished, sound-here}
 use Rattle.words.specs.Word.{Bytes}
-use Rattle.strips.specs.Sample.{strip, storedAt}
-use Rattle.strips.specs.Promises.{reorderFaults, wordsOf}
+use Rattle.strips.specs.Sample.{wordOf, strip, storedAt}
+use Rattle.strips.specs.Promises.{reorderFaults}
 use Rattle.strips.proofs.Strips.{good-checked, bytes-words}
 use Rattle.samples.proofs.Rowwise.{unpredicted}
 use Rattle.samples.proofs.transform.Statement.{statement}
@@ -41,7 +41,7 @@ returns-2 c =
     let g = strip (start .args .row-bytes) (start .args .channels) (start .args .width) in
     let words = bytes-words (length (now (start .args .raw))) g (good-checked (length (now (start .args .raw))) g (start .pre .sound)) in
     rw (c .before .before .before .before .if1 .left)
-    (finished (reorderFaults (now (start .args .raw)) (start .args .width) (now (start .args .out))) tt (length (now (start .args .raw))) (storedAt (start .args .width) (start .args .out-le) (wordsOf (start .args .width) (start .args .le) (now (start .args .raw)))) (now (start .args .out)) _ (next (sound-here (start .pre .sound)) (next (ap not (eq-eqb _ _ words)) (next (le-ltb _ _ (start .pre .room)) none))) (c .before .before .reorder .ensures)
+    (finished (reorderFaults (now (start .args .raw)) (start .args .width) (now (start .args .out))) tt (length (now (start .args .raw))) (storedAt (start .args .width) (start .args .out-le) (wordOf (start .args .width) (start .args .le) (now (start .args .raw)))) (now (start .args .out)) _ (next (sound-here (start .pre .sound)) (next (ap not (eq-eqb _ _ words)) (next (le-ltb _ _ (start .pre .room)) none))) (c .before .before .reorder .ensures)
     ∙ unpredicted (now (start .args .raw)) (bytes known) g (start .args .le) (start .args .out-le) (start .args .forward) (now (start .args .out)))
 
 pub transform-spec : {M : Type 1} → statement M

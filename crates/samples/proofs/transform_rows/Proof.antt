@@ -3,7 +3,6 @@ use borrow.Author.Needs.{needs}
 use native.Mathlib.Omega.{arith}
 use Prim.Native.Nat.{_-_}
 use lib.ListN.{length}
-use denote.Ref.{now}
 use Rattle.strips.specs.Sample.{strip}
 use Rattle.samples.proofs.Rowwise.{Rowwise, rowwise-none, row-some, row-room, row-served, row-turned, rows-ended}
 use Rattle.samples.proofs.transform_rows.Statement.{statement}
@@ -22,7 +21,7 @@ add-end : tie.Need-add-end Inv-loop μ-loop
 add-end c =
     let at = c .before in
     let start = at .before .before .before in
-    omega (arith, row-room (now (start .args .raw)) (strip (start .args .row-bytes) (start .args .channels) (start .args .width)) (start .args .le) (start .args .out-le) (start .args .forward) (now (start .args .out)) (at .loop .at) (at .loop .out) (start .pre) (at .loop .inv) (c .loop-test .taken), start .good)
+    omega (arith, row-room (start .pre) (at .loop .inv) (c .loop-test .taken), start .good)
 
 sub-transform-row : tie.Need-sub-transform-row Inv-loop μ-loop
 sub-transform-row c = omega arith
@@ -34,7 +33,7 @@ part-transform-row-end : tie.Need-part-transform-row-end Inv-loop μ-loop
 part-transform-row-end c =
     let at = c .before in
     let start = at .before .before .before in
-    row-room (now (start .args .raw)) (strip (start .args .row-bytes) (start .args .channels) (start .args .width)) (start .args .le) (start .args .out-le) (start .args .forward) (now (start .args .out)) (at .loop .at) (at .loop .out) (start .pre) (at .loop .inv) (c .loop-test .taken)
+    row-room (start .pre) (at .loop .inv) (c .loop-test .taken)
 
 sub-transform-row-2 : tie.Need-sub-transform-row-2 Inv-loop μ-loop
 sub-transform-row-2 c = omega arith
@@ -46,25 +45,25 @@ part-transform-row-end-2 : tie.Need-part-transform-row-end-2 Inv-loop μ-loop
 part-transform-row-end-2 c =
     let at = c .before .before in
     let start = at .before .before .before in
-    omega (arith, row-room (now (start .args .raw)) (strip (start .args .row-bytes) (start .args .channels) (start .args .width)) (start .args .le) (start .args .out-le) (start .args .forward) (now (start .args .out)) (at .loop .at) (at .loop .out) (start .pre) (at .loop .inv) (c .before .loop-test .taken), at .loop .inv .same, start .pre .room)
+    omega (arith, row-room (start .pre) (at .loop .inv) (c .before .loop-test .taken), at .loop .inv .same, start .pre .room)
 
 transform-row-requires : tie.Need-transform-row-requires Inv-loop μ-loop
 transform-row-requires c κs =
     let at = c .before .before .before in
     let start = at .before .before .before in
-    row-served (now (start .args .raw)) (strip (start .args .row-bytes) (start .args .channels) (start .args .width)) (start .args .le) (start .args .out-le) (start .args .forward) (now (start .args .out)) (at .loop .at) (at .loop .out) (start .pre) (at .loop .inv) (c .before .before .loop-test .taken)
+    row-served (start .pre) (at .loop .inv) (c .before .before .loop-test .taken)
 
 loop-less : tie.Need-loop-less Inv-loop μ-loop
 loop-less c =
     let at = c .before .before .before .before .before .before in
     let start = at .before .before .before in
-    omega (arith, row-some (now (start .args .raw)) (strip (start .args .row-bytes) (start .args .channels) (start .args .width)) (start .args .le) (start .args .out-le) (start .args .forward) (now (start .args .out)) (at .loop .at) (at .loop .out) (start .pre) (at .loop .inv), c .before .before .before .before .before .loop-test .taken)
+    omega (arith, row-some (start .pre) (at .loop .inv), c .before .before .before .before .before .loop-test .taken)
 
 loop-again : tie.Need-loop-again Inv-loop μ-loop
 loop-again c =
     let at = c .before .before .before .before .before .before in
     let start = at .before .before .before in
-    row-turned (now (start .args .raw)) (strip (start .args .row-bytes) (start .args .channels) (start .args .width)) (start .args .le) (start .args .out-le) (start .args .forward) (now (start .args .out)) (at .loop .at) (at .loop .out) (start .pre) (at .loop .inv) (c .before .before .before .before .before .loop-test .taken) _ (c .before .before .transform-row .ensures)
+    row-turned (start .pre) (at .loop .inv) (c .before .before .before .before .before .loop-test .taken) _ (c .before .before .transform-row .ensures)
 
 same-length : tie.Need-same-length Inv-loop μ-loop
 same-length c = search needs
@@ -73,7 +72,7 @@ returns : tie.Need-returns Inv-loop μ-loop
 returns c =
     let at = c .before in
     let start = at .before .before .before in
-    rows-ended (now (start .args .raw)) (strip (start .args .row-bytes) (start .args .channels) (start .args .width)) (start .args .le) (start .args .out-le) (start .args .forward) (now (start .args .out)) (at .loop .at) (at .loop .out) (start .pre) (at .loop .inv) (c .loop-test .left)
+    rows-ended (start .pre) (at .loop .inv) (c .loop-test .left)
 
 pub transform-rows-spec : {M : Type 1} → statement M
 transform-rows-spec =

@@ -5,7 +5,6 @@ use Prim.Native.Nat.{ℕ, _-_, _/_}
 use mathlib.Core.Bool.{true}
 use mathlib.Core.Path.{_≡_, sym, ap, _∙_}
 use lib.ListN.{length}
-use denote.Ref.{now}
 use Rattle.words.specs.Word.{plus}
 use Rattle.strips.specs.Sample.{sample}
 use Rattle.rows.specs.Row.{oneRow}
@@ -26,7 +25,7 @@ get4-requires : tie.Need-get4-requires Inv-loop μ-loop
 get4-requires c κs =
     let at = c .before in
     let start = at .before .before .before in
-    sum-room (now (start .args .raw)) 4 (start .args .le) (start .args .out-le) (now (start .args .out)) (at .loop .at) (at .loop .out) (at .loop .sum) (start .pre) (at .loop .inv .0) (at .loop .inv .1) (c .loop-test .taken)
+    sum-room (start .args .le) (start .pre) (at .loop .inv .0) (at .loop .inv .1) (c .loop-test .taken)
 
 add4-requires : tie.Need-add4-requires Inv-loop μ-loop
 add4-requires c κs = search needs
@@ -35,13 +34,13 @@ put4-requires : tie.Need-put4-requires Inv-loop μ-loop
 put4-requires c κs =
     let at = c .before .before .before .before in
     let start = at .before .before .before in
-    omega (arith, sum-room (now (start .args .raw)) 4 (start .args .le) (start .args .out-le) (now (start .args .out)) (at .loop .at) (at .loop .out) (at .loop .sum) (start .pre) (at .loop .inv .0) (at .loop .inv .1) (c .before .before .before .loop-test .taken), at .loop .inv .0 .same, start .pre .room)
+    omega (arith, sum-room (start .args .le) (start .pre) (at .loop .inv .0) (at .loop .inv .1) (c .before .before .before .loop-test .taken), at .loop .inv .0 .same, start .pre .room)
 
 add-at : tie.Need-add-at Inv-loop μ-loop
 add-at c =
     let at = c .before .before .before .before .before .before .before in
     let start = at .before .before .before in
-    omega (arith, sum-room (now (start .args .raw)) 4 (start .args .le) (start .args .out-le) (now (start .args .out)) (at .loop .at) (at .loop .out) (at .loop .sum) (start .pre) (at .loop .inv .0) (at .loop .inv .1) (c .before .before .before .before .before .before .loop-test .taken), start .good)
+    omega (arith, sum-room (start .args .le) (start .pre) (at .loop .inv .0) (at .loop .inv .1) (c .before .before .before .before .before .before .loop-test .taken), start .good)
 
 loop-less : tie.Need-loop-less Inv-loop μ-loop
 loop-less c = let more = c .before .before .before .before .before .before .loop-test .taken in omega arith
@@ -52,7 +51,7 @@ loop-again c =
     let start = at .before .before .before in
     let more = c .before .before .before .before .before .before .loop-test .taken in
     let e = c .before .before .before .before .add4 .ensures ∙ ap (λ (x : ℕ). plus 4 x (at .loop .sum)) (c .before .before .before .before .before .get4 .ensures) in
-    (sum-turned (now (start .args .raw)) 4 (start .args .le) (start .args .out-le) (now (start .args .out)) (at .loop .at) (at .loop .out) (at .loop .sum) (start .pre) (at .loop .inv .0) (at .loop .inv .1) more _ _ e (c .before .before .put4 .ensures), sum-carried (now (start .args .raw)) 4 (start .args .le) (start .args .out-le) (now (start .args .out)) (at .loop .at) (at .loop .out) (at .loop .sum) (start .pre) (at .loop .inv .0) (at .loop .inv .1) more _ e)
+    (sum-turned (start .args .le) (start .pre) (at .loop .inv .0) (at .loop .inv .1) more _ _ e (c .before .before .put4 .ensures), sum-carried (start .args .le) (start .pre) (at .loop .inv .0) (at .loop .inv .1) more _ e)
 
 same-length : tie.Need-same-length Inv-loop μ-loop
 same-length c = search needs
@@ -61,7 +60,7 @@ returns : tie.Need-returns Inv-loop μ-loop
 returns c =
     let at = c .before in
     let start = at .before .before .before in
-    ended _ 4 _ (now (start .args .raw)) _ (at .loop .at) (at .loop .out) (at .loop .inv .0) (c .loop-test .left)
+    ended (at .loop .inv .0) (c .loop-test .left)
 
 pub sum4-spec : {M : Type 1} → statement M
 sum4-spec =

@@ -31,7 +31,7 @@ get8-requires : tie.Need-get8-requires Inv-loop μ-loop
 get8-requires c κs =
     let at = c .before in
     let start = at .before .before .before in
-    trail-room (now (start .args .raw)) (start .args .channels) 8 (start .args .le) (start .args .out-le) (now (start .args .out)) (at .loop .at) (at .loop .out) (sample (oneRow (now (start .args .raw)) (start .args .channels) 8) true (start .args .le) (now (start .args .raw))) (start .pre .fits) (at .loop .inv .0) (at .loop .inv .1) (c .loop-test .taken)
+    trail-room (start .pre .fits) (at .loop .inv .0) (at .loop .inv .1) (c .loop-test .taken)
 
 sub-get8 : tie.Need-sub-get8 Inv-loop μ-loop
 sub-get8 c = c .before .before .before .loop .inv .1
@@ -40,7 +40,7 @@ get8-requires-2 : tie.Need-get8-requires-2 Inv-loop μ-loop
 get8-requires-2 c κs =
     let at = c .before .before .before in
     let start = at .before .before .before in
-    omega (arith, trail-room (now (start .args .raw)) (start .args .channels) 8 (start .args .le) (start .args .out-le) (now (start .args .out)) (at .loop .at) (at .loop .out) (sample (oneRow (now (start .args .raw)) (start .args .channels) 8) true (start .args .le) (now (start .args .raw))) (start .pre .fits) (at .loop .inv .0) (at .loop .inv .1) (c .before .before .loop-test .taken), at .loop .inv .0 .same, start .pre .fits .room, start .pre .fits .channel)
+    omega (arith, trail-room (start .pre .fits) (at .loop .inv .0) (at .loop .inv .1) (c .before .before .loop-test .taken), at .loop .inv .0 .same, start .pre .fits .room, start .pre .fits .channel)
 
 add8-requires : tie.Need-add8-requires Inv-loop μ-loop
 add8-requires c κs = search needs
@@ -49,13 +49,13 @@ put8-requires : tie.Need-put8-requires Inv-loop μ-loop
 put8-requires c κs =
     let at = c .before .before .before .before .before .before in
     let start = at .before .before .before in
-    omega (arith, trail-room (now (start .args .raw)) (start .args .channels) 8 (start .args .le) (start .args .out-le) (now (start .args .out)) (at .loop .at) (at .loop .out) (sample (oneRow (now (start .args .raw)) (start .args .channels) 8) true (start .args .le) (now (start .args .raw))) (start .pre .fits) (at .loop .inv .0) (at .loop .inv .1) (c .before .before .before .before .before .loop-test .taken), at .loop .inv .0 .same, start .pre .fits .room)
+    omega (arith, trail-room (start .pre .fits) (at .loop .inv .0) (at .loop .inv .1) (c .before .before .before .before .before .loop-test .taken), at .loop .inv .0 .same, start .pre .fits .room)
 
 add-at : tie.Need-add-at Inv-loop μ-loop
 add-at c =
     let at = c .before .before .before .before .before .before .before .before .before in
     let start = at .before .before .before in
-    omega (arith, trail-room (now (start .args .raw)) (start .args .channels) 8 (start .args .le) (start .args .out-le) (now (start .args .out)) (at .loop .at) (at .loop .out) (sample (oneRow (now (start .args .raw)) (start .args .channels) 8) true (start .args .le) (now (start .args .raw))) (start .pre .fits) (at .loop .inv .0) (at .loop .inv .1) (c .before .before .before .before .before .before .before .before .loop-test .taken), start .good)
+    omega (arith, trail-room (start .pre .fits) (at .loop .inv .0) (at .loop .inv .1) (c .before .before .before .before .before .before .before .before .loop-test .taken), start .good)
 
 loop-less : tie.Need-loop-less Inv-loop μ-loop
 loop-less c = let more = c .before .before .before .before .before .before .before .before .loop-test .taken in omega arith
@@ -69,7 +69,7 @@ loop-again c =
     c .before .before .before .before .add8 .ensures
     ∙ ap (λ (x : ℕ). plus 8 x (c .before .before .before .before .before .get82 .result)) (c .before .before .before .before .before .before .before .get8 .ensures)
     ∙ ap (λ (y : ℕ). plus 8 (wordAt (now (start .args .raw)) (at .loop .at) 8 (start .args .le)) y) (c .before .before .before .before .before .get82 .ensures) in
-    (trail-turned (now (start .args .raw)) (start .args .channels) 8 (start .args .le) (start .args .out-le) (now (start .args .out)) (at .loop .at) (at .loop .out) (start .pre .fits) (at .loop .inv .1) more (at .loop .inv .0) _ _ e (c .before .before .put8 .ensures), omega arith)
+    (trail-turned (start .args .le) (start .pre .fits) (at .loop .inv .1) more (at .loop .inv .0) _ _ e (c .before .before .put8 .ensures), omega arith)
 
 same-length : tie.Need-same-length Inv-loop μ-loop
 same-length c = search needs
@@ -78,7 +78,7 @@ returns : tie.Need-returns Inv-loop μ-loop
 returns c =
     let at = c .before in
     let start = at .before .before .before in
-    ended _ 8 _ (now (start .args .raw)) _ (at .loop .at) (at .loop .out) (at .loop .inv .0) (c .loop-test .left)
+    ended (at .loop .inv .0) (c .loop-test .left)
 
 pub trail8-spec : {M : Type 1} → statement M
 trail8-spec =

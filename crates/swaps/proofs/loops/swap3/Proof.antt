@@ -5,7 +5,6 @@ use native.Mathlib.Omega.{arith}
 use native.Mathlib.Nat.{add-zero}
 use Prim.Native.Nat.{_-_}
 use lib.ListN.{length, length-set}
-use denote.Ref.{now}
 use Rattle.swaps.proofs.Swapping.{Swapping, begun, turned, ended}
 use Rattle.swaps.proofs.loops.swap3.Statement.{statement}
 use Rattle.swaps.proofs.loops.swap3.Tie as tie
@@ -58,8 +57,7 @@ loop-less c = omega arith
 loop-again : tie.Need-loop-again Inv-loop μ-loop
 loop-again c =
     let at = c .before .before .before .before in
-    let args = at .before .args in
-    rw (add-zero (at .loop .at)) at (turned (now (args .raw)) 3 (now (args .out)) (at .loop .at) (at .loop .out) (at .before .pre) (at .loop .inv) (c .before .before .before .loop-test .taken))
+    rw (add-zero (at .loop .at)) at (turned (at .before .pre) (at .loop .inv) (c .before .before .before .loop-test .taken))
 
 same-length : tie.Need-same-length Inv-loop μ-loop
 same-length c = search needs
@@ -67,7 +65,7 @@ same-length c = search needs
 returns : tie.Need-returns Inv-loop μ-loop
 returns c =
     let at = c .before in
-    ended (now (at .before .args .raw)) 3 (now (at .before .args .out)) (at .loop .at) (at .loop .out) (at .before .pre) (at .loop .inv) (c .loop-test .left)
+    ended (at .before .pre) (at .loop .inv) (c .loop-test .left)
 
 pub swap3-spec : {M : Type 1} → statement M
 swap3-spec =
