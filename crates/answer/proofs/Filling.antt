@@ -8,7 +8,7 @@ use native.Mathlib.Numerals.{add-one}
 use native.Mathlib.Decide.{decLt}
 use native.Mathlib.Omega.{arith}
 use lib.ListN.{length, getD, take, drop, set, take-append-drop, drop-of-length-le, length-take, length-append, length-drop, length-set, List·getD-append}
-use lib.Seq.{drop-cons, drop-drop, drop-append-add, set-at, take-at, drop-at, getD-take, getD-at, getD-append-add, getD-drop, ext-getD}
+use lib.Seq.{drop-cons, drop-drop, drop-append-add, set-at, take-at, drop-at, getD-take, getD-set-same, getD-set-other, getD-at, getD-append-add, getD-drop, ext-getD}
 use Rattle.answer.specs.Table.{table, filled, stores}
 
 pub length-table : (n : ℕ) (f : ℕ → ℕ) → length (table n f) ≡ n
@@ -45,6 +45,20 @@ filled-more i f old h = rw (add-one, drop-cons old i 0) (set-at (table i f) _ (d
 pub length-stores : (out : List ℕ) (at n : ℕ) (g : ℕ → ℕ) → length (stores out at n g) ≡ length out
 length-stores out at zero g = refl
 length-stores out at (suc n) g = length-set (stores out at n g) (at + n) (g n) ∙ length-stores out at n g
+
+-- what n stores put there, and what they leave
+pub stores-at : (out : List ℕ) (at n : ℕ) (g : ℕ → ℕ) (p : ℕ) → p < n → at + n ≤ length out → getD (stores out at n g) (at + p) 0 ≡ g p
+stores-at out at zero g p h room = absurd (omega arith)
+stores-at out at (suc n) g p h room = by (decLt p n) (λ l. stores-at out at n g p l (omega arith))
+  where
+    by : Dec (p < n) → (p < n → getD (stores out at n g) (at + p) 0 ≡ g p) → getD (set (stores out at n g) (at + n) (g n)) (at + p) 0 ≡ g p
+    by (yes l) before = getD-set-other (stores out at n g) (at + n) (at + p) (g n) 0 (λ e. omega arith) ∙ before l
+    by (no m) before = let last : p ≡ n = omega arith in rw last (getD-set-same (stores out at n g) (at + n) (g n) 0 (rw length-stores (omega arith)))
+
+pub stores-rest : (out : List ℕ) (at n : ℕ) (g : ℕ → ℕ) (k : ℕ) → (at ≤ k → at + n ≤ k) → getD (stores out at n g) k 0 ≡ getD out k 0
+stores-rest out at zero g k away = refl
+stores-rest out at (suc n) g k away =
+    getD-set-other (stores out at n g) (at + n) k (g n) 0 (λ e. omega (arith, away (omega arith))) ∙ stores-rest out at n g k (λ l. omega (arith, away l))
 
 -- a turn that stores n elements, each what f has there, fills n more
 pub stores-filled : (f g : ℕ → ℕ) (old out : List ℕ) (at n : ℕ) → ((p : ℕ) → p < n → g p ≡ f (at + p)) → at + n ≤ length old → out ≡ filled at f old → stores out at n g ≡ filled (at + n) f old

@@ -1,4 +1,4 @@
-// Forward prediction of a row past its first words, for each width.
+// Forward prediction of a row past its first words, for each width. Width 1 is written as the others are.
 use crate::word;
 ghost use Rattle.rows.specs.Row.{Led, predictedAt, PredictedInto};
 

@@ -7,8 +7,6 @@ use answer::Done;
 use answer::Refusal;
 ghost use mathlib.Core.Path.{_≡_};
 ghost use mathlib.Core.Bool.{true};
-ghost use Prim.Native.Nat.{_≤_, _%_};
-ghost use lib.ListN.{length};
 ghost use Rattle.words.specs.Promises.{served};
 ghost use Rattle.rows.specs.Row.{
   RowFits,

@@ -1,4 +1,4 @@
-// A row of several channels past its first words, for each width: the sample `channels` before is read back from the output.
+// A row of several channels past its first words, for each width: the sample `channels` before is read back from the output. Width 1 is written as the others are.
 use crate::word;
 ghost use Rattle.rows.specs.Row.{Led, undoneAt, UndoneInto};
 
