@@ -34,7 +34,9 @@ get2-requires c κs =
     trail-room (start .pre .fits) (at .loop .inv .0) (at .loop .inv .1) (c .loop-test .taken)
 
 sub-get2 : tie.Need-sub-get2 Inv-loop μ-loop
-sub-get2 c = c .before .before .loop .inv .1
+sub-get2 c =
+    let at = c .before .before in
+    omega (arith, at .loop .inv .1, at .before .before .before .pre .fits .channel)
 
 get2-requires-2 : tie.Need-get2-requires-2 Inv-loop μ-loop
 get2-requires-2 c κs =

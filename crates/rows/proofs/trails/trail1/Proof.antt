@@ -34,7 +34,9 @@ get1-requires c κs =
     trail-room (start .pre .fits) (at .loop .inv .0) (at .loop .inv .1) (c .loop-test .taken)
 
 sub-get1 : tie.Need-sub-get1 Inv-loop μ-loop
-sub-get1 c = c .before .before .before .loop .inv .1
+sub-get1 c =
+    let at = c .before .before .before in
+    omega (arith, at .loop .inv .1, at .before .before .before .pre .fits .channel)
 
 get1-requires-2 : tie.Need-get1-requires-2 Inv-loop μ-loop
 get1-requires-2 c κs =

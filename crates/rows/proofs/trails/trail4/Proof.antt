@@ -34,7 +34,9 @@ get4-requires c κs =
     trail-room (start .pre .fits) (at .loop .inv .0) (at .loop .inv .1) (c .loop-test .taken)
 
 sub-get4 : tie.Need-sub-get4 Inv-loop μ-loop
-sub-get4 c = c .before .before .before .loop .inv .1
+sub-get4 c =
+    let at = c .before .before .before in
+    omega (arith, at .loop .inv .1, at .before .before .before .pre .fits .channel)
 
 get4-requires-2 : tie.Need-get4-requires-2 Inv-loop μ-loop
 get4-requires-2 c κs =

@@ -34,7 +34,9 @@ get8-requires c κs =
     trail-room (start .pre .fits) (at .loop .inv .0) (at .loop .inv .1) (c .loop-test .taken)
 
 sub-get8 : tie.Need-sub-get8 Inv-loop μ-loop
-sub-get8 c = c .before .before .before .loop .inv .1
+sub-get8 c =
+    let at = c .before .before .before in
+    omega (arith, at .loop .inv .1, at .before .before .before .pre .fits .channel)
 
 get8-requires-2 : tie.Need-get8-requires-2 Inv-loop μ-loop
 get8-requires-2 c κs =
