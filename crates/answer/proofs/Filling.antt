@@ -33,9 +33,6 @@ table-same (suc n) f g e = rw (table-same n f g (λ k h. e k (omega arith)), e n
 pub table-self : (l : List ℕ) → table (length l) (λ k. getD l k 0) ≡ l
 table-self l = ext-getD 0 (table (length l) (λ k. getD l k 0)) l (length-table (length l) (λ k. getD l k 0)) (λ i h. table-at (length l) (λ k. getD l k 0) i (rw length-table at h))
 
-pub filled-none : (f : ℕ → ℕ) (old : List ℕ) → filled 0 f old ≡ old
-filled-none f old = refl
-
 pub length-filled : (i : ℕ) (f : ℕ → ℕ) (old : List ℕ) → i ≤ length old → length (filled i f old) ≡ length old
 length-filled i f old h = simp (length-append, length-table, length-drop) (omega arith)
 

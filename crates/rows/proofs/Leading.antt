@@ -1,7 +1,7 @@
 -- The first words of a row: put there by `lead`, they are the row's first samples and its first differences, and the loops go on from them.
 -- Assumes nothing.
 use mathlib.Core.Path.{_≡_, refl, sym, ap, _∙_}
-use mathlib.Core.Bool.{Bool, true, not}
+use mathlib.Core.Bool.{Bool, true, false, not}
 use mathlib.Core.List.{List, _++_}
 use Prim.Native.Nat.{ℕ, _+_, _-_, _*_, _/_, _%_, _<_}
 use native.Mathlib.Nat.{zero-add, mod-le, mod-eq-of-lt, div-lt-iff-lt-mul}
@@ -16,12 +16,12 @@ use Rattle.answer.proofs.Filling.{part, length-part, part-filled, length-filled
 use Rattle.words.specs.Digits.{digit}
 use Rattle.words.specs.Word.{turn, Bytes, wordAt, modulus}
 use Rattle.words.proofs.Words.{word-below}
-use Rattle.strips.specs.Sample.{wordOf, alone, storedAt}
+use Rattle.strips.specs.Sample.{Strip, wordOf, alone, storedAt}
 use Rattle.strips.specs.Promises.{reorderFaults, Reordered}
 use Rattle.strips.proofs.Sums.{sample-alone, difference-alone}
 use Rattle.strips.proofs.Stored.{word-room}
 use Rattle.strips.proofs.Parts.{part-word}
-use Rattle.rows.specs.Row.{oneRow, RowServed, Led, LeadFits, LedInto, undoneAt, predictedAt}
+use Rattle.rows.specs.Row.{oneRow, meant, RowServed, Led, LeadFits, LedInto, undoneAt, predictedAt}
 
 -- what `reorder` does to the front is what `lead` promises of the whole
 pub led : (raw out new : List ℕ) (step width : ℕ) (le out-le : Bool) (answer : Done) → LeadFits raw step width out → Reordered (part 0 step raw) width le out-le (part 0 step out) answer new → new ++ drop (step - 0) (drop 0 out) ≡ filled step (storedAt width out-le (wordOf width le raw)) out
@@ -67,3 +67,11 @@ module _ (f : ℕ → ℕ) (raw : List ℕ) (channels width : ℕ) (le out-le : 
 
   pub done-on : (new : List ℕ) → new ≡ filled (length raw) f mid → new ≡ filled (length raw) f old
   done-on new e = e ∙ ap (filled (length raw) f) begun ∙ filled-on (channels * width) (length raw) f old (row .step)
+
+-- without prediction every word stands for itself
+pub unpredicted : (raw : List ℕ) (b : Bytes raw) (g : Strip) (le out-le forward : Bool) (old : List ℕ) → filled (length raw) (storedAt (g .width) out-le (wordOf (g .width) le raw)) old ≡ filled (length raw) (storedAt (g .width) out-le (meant forward g false le raw)) old
+unpredicted raw b g le out-le forward old = filled-same (length raw) _ _ old (λ k h. ap (digit 256 (turn out-le (g .width) (k % g .width))) (by forward (k / g .width)))
+  where
+    by : (f : Bool) (n : ℕ) → wordOf (g .width) le raw n ≡ meant f g false le raw n
+    by true n = sym (difference-alone g false le raw n refl ∙ mod-eq-of-lt (word-below raw (n * g .width) (g .width) le b))
+    by false n = sym (sample-alone g false le raw n refl ∙ mod-eq-of-lt (word-below raw (n * g .width) (g .width) le b))

@@ -1,27 +1,36 @@
--- What is promised of one row: a predicted row read, and a row predicted. A row is a strip of one row, so the
--- definitions are the strip's own. Assumes nothing.
+-- What is promised of one row: conversion, and with `forward` forward prediction. A row is a strip of one row, so the definitions
+-- are the strip's own. Assumes nothing.
 use Prim.Native.Nat.{ℕ, _*_, _%_, _≤_, _<_}
 use mathlib.Core.Path.{_≡_}
 use mathlib.Core.Bool.{Bool, true}
 use mathlib.Core.List.{List}
 use lib.ListN.{length, take}
+use Rattle.answer.specs.Outcome.{unless, pick, Promise, doneOutcome}
 use Rattle.answer.specs.Table.{table, filled, stores}
 use Rattle.answer.specs.declared.Done.{Done}
 use Rattle.words.specs.Digits.{digit}
 use Rattle.words.specs.Word.{turn}
 use Rattle.strips.specs.Sample.{wordOf, Strip, strip, sample, difference, storedAt}
 use Rattle.words.specs.Promises.{served}
-use Rattle.strips.specs.Promises.{Converted, Forwarded}
+use Rattle.strips.specs.Promises.{convertFaults}
 
 -- a row as a strip
 abbrev pub oneRow : List ℕ → ℕ → ℕ → Strip
 oneRow raw channels width = strip (length raw) channels width
 
-abbrev pub RowUndone : List ℕ → ℕ → ℕ → Bool → Bool → List ℕ → Done → List ℕ → Type 0
-RowUndone raw channels width le out-le old answer new = Converted raw (oneRow raw channels width) true le out-le old answer new
+-- the words that are written: a row's samples, or the row predicted
+abbrev pub meant : Bool → Strip → Bool → Bool → List ℕ → ℕ → ℕ
+meant forward g predict le raw = pick forward (difference g predict le raw) (sample g predict le raw)
 
-abbrev pub RowPredicted : List ℕ → ℕ → ℕ → Bool → Bool → List ℕ → Done → List ℕ → Type 0
-RowPredicted raw channels width le out-le old answer new = Forwarded raw (oneRow raw channels width) true le out-le old answer new
+abbrev pub Transformed : List ℕ → Strip → Bool → Bool → Bool → Bool → List ℕ → Done → List ℕ → Type 0
+Transformed raw g predict le out-le forward old answer new =
+    Promise (unless (convertFaults raw g old) tt) (table (length raw) (storedAt (g .width) out-le (meant forward g predict le raw))) old (doneOutcome answer) new
+
+abbrev pub TransformedInto : List ℕ → Strip → Bool → Bool → Bool → Bool → List ℕ → List ℕ → Type 0
+TransformedInto raw g predict le out-le forward old new = new ≡ filled (length raw) (storedAt (g .width) out-le (meant forward g predict le raw)) old
+
+abbrev pub RowTransformed : List ℕ → ℕ → ℕ → Bool → Bool → Bool → Bool → List ℕ → Done → List ℕ → Type 0
+RowTransformed raw channels width = Transformed raw (oneRow raw channels width)
 
 -- what the private loops need of a row, and what they do
 pub record RowFits (raw : List ℕ) (channels width : ℕ) (out : List ℕ) : Type 0 where

@@ -16,10 +16,11 @@ ghost use Rattle.rows.specs.Row.{
   LedInto,
   undoneAt,
   predictedAt,
+  oneRow,
   UndoneInto,
   PredictedInto,
-  RowUndone,
-  RowPredicted,
+  TransformedInto,
+  RowTransformed,
 };
 
 fn sum(raw: &[u8], width: usize, le: bool, out_le: bool, out: &mut [u8])
@@ -76,7 +77,7 @@ fn lead(raw: &[u8], step: usize, width: usize, le: bool, out_le: bool, out: &mut
     strips::reorder(&raw[start..step], width, le, out_le, &mut out[start..step]);
 }
 
-fn undo(raw: &[u8], channels: usize, width: usize, le: bool, out_le: bool, out: &mut [u8])
+fn undo_words(raw: &[u8], channels: usize, width: usize, le: bool, out_le: bool, out: &mut [u8])
     requires { ⌜ RowServed (now raw) channels width (now out) ⌝ }
     ensures { λ r. ⌜ UndoneInto (now (raw .entry)) channels width le «out_le» (now (out .entry)) (now (out .exit)) ⌝ }
 {
@@ -88,7 +89,7 @@ fn undo(raw: &[u8], channels: usize, width: usize, le: bool, out_le: bool, out: 
     }
 }
 
-fn predict(raw: &[u8], channels: usize, width: usize, le: bool, out_le: bool, out: &mut [u8])
+fn predict_words(raw: &[u8], channels: usize, width: usize, le: bool, out_le: bool, out: &mut [u8])
     requires { ⌜ RowServed (now raw) channels width (now out) ⌝ }
     ensures { λ r. ⌜ PredictedInto (now (raw .entry)) channels width le «out_le» (now (out .entry)) (now (out .exit)) ⌝ }
 {
@@ -96,39 +97,42 @@ fn predict(raw: &[u8], channels: usize, width: usize, le: bool, out_le: bool, ou
     difference(raw, channels, width, le, out_le, out)
 }
 
-// The samples of one predicted row.
-pub fn undo_row(
+fn transform_words(
     raw: &[u8],
     channels: usize,
     width: usize,
     le: bool,
+    predict: bool,
     out_le: bool,
+    forward: bool,
     out: &mut [u8],
-) -> Done
-    ensures { λ r. ⌜ RowUndone (now (raw .entry)) channels width le «out_le» (now (out .entry)) r (now (out .exit)) ⌝ }
+)
+    requires { ⌜ RowServed (now raw) channels width (now out) ⌝ }
+    ensures { λ r. ⌜ TransformedInto (now (raw .entry)) (oneRow (now (raw .entry)) channels width) predict le «out_le» forward (now (out .entry)) (now (out .exit)) ⌝ }
 {
-    match strips::check_strip(raw.len(), raw.len(), channels, width) {
-        Done::Refused(k) => Done::Refused(k),
-        Done::Done => {
-            if out.len() < raw.len() {
-                return Done::Refused(Refusal::OutputTooSmall);
-            }
-            undo(raw, channels, width, le, out_le, out);
-            Done::Done
+    if predict {
+        if forward {
+            predict_words(raw, channels, width, le, out_le, out)
+        } else {
+            undo_words(raw, channels, width, le, out_le, out)
         }
+    } else {
+        strips::reorder(raw, width, le, out_le, out);
     }
 }
 
-// One row, predicted.
-pub fn predict_row(
+// One row: its samples, or with `forward` the row predicted.
+pub fn transform_row(
     raw: &[u8],
     channels: usize,
     width: usize,
     le: bool,
+    predict: bool,
     out_le: bool,
+    forward: bool,
     out: &mut [u8],
 ) -> Done
-    ensures { λ r. ⌜ RowPredicted (now (raw .entry)) channels width le «out_le» (now (out .entry)) r (now (out .exit)) ⌝ }
+    ensures { λ r. ⌜ RowTransformed (now (raw .entry)) channels width predict le «out_le» forward (now (out .entry)) r (now (out .exit)) ⌝ }
 {
     match strips::check_strip(raw.len(), raw.len(), channels, width) {
         Done::Refused(k) => Done::Refused(k),
@@ -136,7 +140,7 @@ pub fn predict_row(
             if out.len() < raw.len() {
                 return Done::Refused(Refusal::OutputTooSmall);
             }
-            predict(raw, channels, width, le, out_le, out);
+            transform_words(raw, channels, width, le, predict, out_le, forward, out);
             Done::Done
         }
     }

@@ -1,1 +1,1 @@
-pub mod Transformed
+pub mod Served

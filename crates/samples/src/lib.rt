@@ -1,61 +1,12 @@
 use answer::Done;
 use answer::Refusal;
 pub use strips::check_strip;
-ghost use mathlib.Core.Bool.{true};
-ghost use lib.ListN.{length};
 ghost use Rattle.strips.specs.Sample.{strip};
 ghost use Rattle.strips.specs.Promises.{Converted, Forwarded};
-ghost use Rattle.samples.specs.Transformed.{Served, TransformedRow, TransformedInto, Transformed};
-
-fn transform_row(
-    raw: &[u8],
-    channels: usize,
-    width: usize,
-    le: bool,
-    out_le: bool,
-    forward: bool,
-    out: &mut [u8],
-)
-    requires { ⌜ Served (now raw) (strip (length (now raw)) channels width) (now out) ⌝ }
-    ensures { λ r. ⌜ TransformedRow (now (raw .entry)) channels width le «out_le» forward (now (out .entry)) (now (out .exit)) ⌝ }
-{
-    if forward {
-        rows::predict_row(raw, channels, width, le, out_le, out);
-    } else {
-        rows::undo_row(raw, channels, width, le, out_le, out);
-    }
-}
+ghost use Rattle.rows.specs.Row.{TransformedInto, Transformed};
+ghost use Rattle.samples.specs.Served.{Served};
 
 fn transform_rows(
-    raw: &[u8],
-    row_bytes: usize,
-    channels: usize,
-    width: usize,
-    le: bool,
-    out_le: bool,
-    forward: bool,
-    out: &mut [u8],
-)
-    requires { ⌜ Served (now raw) (strip «row_bytes» channels width) (now out) ⌝ }
-    ensures { λ r. ⌜ TransformedInto (now (raw .entry)) (strip «row_bytes» channels width) true le «out_le» forward (now (out .entry)) (now (out .exit)) ⌝ }
-{
-    let mut at: usize = 0;
-    while at < raw.len() {
-        let end = at + row_bytes;
-        transform_row(
-            &raw[at..end],
-            channels,
-            width,
-            le,
-            out_le,
-            forward,
-            &mut out[at..end],
-        );
-        at = end;
-    }
-}
-
-fn transform(
     raw: &[u8],
     row_bytes: usize,
     channels: usize,
@@ -69,10 +20,21 @@ fn transform(
     requires { ⌜ Served (now raw) (strip «row_bytes» channels width) (now out) ⌝ }
     ensures { λ r. ⌜ TransformedInto (now (raw .entry)) (strip «row_bytes» channels width) predict le «out_le» forward (now (out .entry)) (now (out .exit)) ⌝ }
 {
-    if predict {
-        transform_rows(raw, row_bytes, channels, width, le, out_le, forward, out);
-    } else {
-        strips::reorder(raw, width, le, out_le, out);
+    let mut at: usize = 0;
+    while at < raw.len() {
+        let end = at + row_bytes;
+        let row = &raw[at..end];
+        rows::transform_row(
+            row,
+            channels,
+            width,
+            le,
+            predict,
+            out_le,
+            forward,
+            &mut out[at..end],
+        );
+        at = end;
     }
 }
 
@@ -95,7 +57,7 @@ fn checked(
             if out.len() < raw.len() {
                 return Done::Refused(Refusal::OutputTooSmall);
             }
-            transform(
+            transform_rows(
                 raw,
                 row_bytes,
                 channels,

@@ -8,15 +8,12 @@ use lib.ListN.{length, getD}
 use Rattle.answer.proofs.Filling.{length-table, table-at, table-same, table-self}
 use Rattle.words.specs.Digits.{digit}
 use Rattle.words.specs.Word.{Bytes}
-use Rattle.words.proofs.Digits.{digit-below, digit-value, value-digit, value-same, value-below}
+use Rattle.words.proofs.Digits.{digit-below, digit-value, value-digit, value-same}
 use Rattle.transport.specs.Moved.{reversed, Turned}
 
 -- bit i of a reversed byte is bit 7 - i
 pub reversed-bit : (v i : ℕ) → i < 8 → digit 2 i (reversed v) ≡ digit 2 (7 - i) v
 reversed-bit v i h = digit-value 2 8 (λ j. digit 2 (7 - j) v) (λ j l. digit-below 2 (7 - j) v (omega arith)) i h
-
-pub reversed-below : (v : ℕ) → reversed v < 256
-reversed-below v = value-below 2 8 (λ j. digit 2 (7 - j) v) (λ j l. digit-below 2 (7 - j) v (omega arith))
 
 pub reversed-reversed : (v : ℕ) → v < 256 → reversed (reversed v) ≡ v
 reversed-reversed v h =

@@ -8,7 +8,7 @@ use Rattle.answer.specs.Outcome.{here, next, none, Sound, doneOutcome}
 use Rattle.answer.proofs.Promised.{refuses, finishes, done-sound, first-more, sound-then, sound-more, refused-told}
 use Rattle.strips.specs.Sample.{strip, storedAt}
 use Rattle.strips.specs.Promises.{stripFaults, convertFaults}
-use Rattle.samples.specs.Transformed.{meant}
+use Rattle.rows.specs.Row.{meant}
 use Rattle.samples.proofs.checked.Statement.{statement}
 use Rattle.samples.proofs.checked.Tie as tie
 
@@ -32,8 +32,8 @@ returns c =
     let args = c .before .before .before .before .before .before .args in
     refuses (convertFaults (now (args .raw)) (strip (args .row-bytes) (args .channels) (args .width)) (now (args .out))) tt _ _ (sound-then (passed (c .before)) (here (lt-ltb _ _ (c .if1 .taken))))
 
-transform-requires : tie.Need-transform-requires
-transform-requires c κs = record { sound = passed (c .before .before); room = c .before .if1 .left }
+transform-rows-requires : tie.Need-transform-rows-requires
+transform-rows-requires c κs = record { sound = passed (c .before .before); room = c .before .if1 .left }
 
 returns-2 : tie.Need-returns-2
 returns-2 c =
@@ -50,7 +50,7 @@ returns-3 c =
     let args = c .before .before .before .before .before .before .before .before .before .before .args in
     let g = strip (args .row-bytes) (args .channels) (args .width) in
     finishes (convertFaults (now (args .raw)) g (now (args .out))) tt (length (now (args .raw))) (storedAt (args .width) (args .out-le) (meant (args .forward) g (args .predict) (args .le) (now (args .raw)))) _ _
-    (sound-more (passed (c .before .before .before .before .before)) (next (le-ltb _ _ (c .before .before .before .before .if1 .left)) none)) (c .before .before .transform .ensures)
+    (sound-more (passed (c .before .before .before .before .before)) (next (le-ltb _ _ (c .before .before .before .before .if1 .left)) none)) (c .before .before .transform-rows .ensures)
 
 pub checked-spec : {M : Type 1} → statement M
-checked-spec = tie.close (tie.spec check-strip-requires enum-known-k enum-told returns transform-requires returns-2 same-length returns-3)
+checked-spec = tie.close (tie.spec check-strip-requires enum-known-k enum-told returns transform-rows-requires returns-2 same-length returns-3)

@@ -4,24 +4,36 @@ use native.Mathlib.Omega.{arith}
 use Prim.Native.Nat.{_-_}
 use lib.ListN.{length}
 use Rattle.strips.specs.Sample.{strip}
-use Rattle.samples.proofs.Rowwise.{Rowwise, rowwise-none, row-some, row-room, row-served, row-turned, rows-ended}
+use Rattle.samples.proofs.Rowwise.{Rowwise, rowwise-none, row-some, row-room, row-turned, rows-ended}
 use Rattle.samples.proofs.transform_rows.Statement.{statement}
 use Rattle.samples.proofs.transform_rows.Tie as tie
 
 abbrev Inv-loop : tie.InvT-loop
-Inv-loop raw row-bytes channels width le out-le forward out₀ at₀ out at = Rowwise raw (strip row-bytes channels width) le out-le forward out₀ at out
+Inv-loop raw row-bytes channels width le predict out-le forward out₀ at₀ out at = Rowwise raw (strip row-bytes channels width) predict le out-le forward out₀ at out
 
 abbrev μ-loop : tie.MeasureT-loop
-μ-loop raw row-bytes channels width le out-le forward out₀ at₀ out at = length raw - at
+μ-loop raw row-bytes channels width le predict out-le forward out₀ at₀ out at = length raw - at
 
 loop-holds : tie.Need-loop-holds Inv-loop μ-loop
-loop-holds c = rowwise-none _ _ _ _ _ _
+loop-holds c = rowwise-none _ _ _ _ _ _ _
 
 add-end : tie.Need-add-end Inv-loop μ-loop
 add-end c =
     let at = c .before in
     let start = at .before .before .before in
-    omega (arith, row-room (start .pre) (at .loop .inv) (c .loop-test .taken), start .good)
+    omega (arith, row-room (start .pre) (at .loop .inv) (omega (arith, c .loop-test .taken, at .loop .inv .inside)), start .good)
+
+sub-row : tie.Need-sub-row Inv-loop μ-loop
+sub-row c = omega arith
+
+part-row-start : tie.Need-part-row-start Inv-loop μ-loop
+part-row-start c = omega arith
+
+part-row-end : tie.Need-part-row-end Inv-loop μ-loop
+part-row-end c =
+    let at = c .before in
+    let start = at .before .before .before in
+    row-room (start .pre) (at .loop .inv) (omega (arith, c .loop-test .taken, at .loop .inv .inside))
 
 sub-transform-row : tie.Need-sub-transform-row Inv-loop μ-loop
 sub-transform-row c = omega arith
@@ -31,39 +43,24 @@ part-transform-row-start c = omega arith
 
 part-transform-row-end : tie.Need-part-transform-row-end Inv-loop μ-loop
 part-transform-row-end c =
-    let at = c .before in
-    let start = at .before .before .before in
-    row-room (start .pre) (at .loop .inv) (c .loop-test .taken)
-
-sub-transform-row-2 : tie.Need-sub-transform-row-2 Inv-loop μ-loop
-sub-transform-row-2 c = omega arith
-
-part-transform-row-start-2 : tie.Need-part-transform-row-start-2 Inv-loop μ-loop
-part-transform-row-start-2 c = omega arith
-
-part-transform-row-end-2 : tie.Need-part-transform-row-end-2 Inv-loop μ-loop
-part-transform-row-end-2 c =
     let at = c .before .before in
     let start = at .before .before .before in
-    omega (arith, row-room (start .pre) (at .loop .inv) (c .before .loop-test .taken), at .loop .inv .same, start .pre .room)
+    omega (arith, row-room (start .pre) (at .loop .inv) (omega (arith, c .before .loop-test .taken, at .loop .inv .inside)), at .loop .inv .same, start .pre .room)
 
 transform-row-requires : tie.Need-transform-row-requires Inv-loop μ-loop
-transform-row-requires c κs =
-    let at = c .before .before .before in
-    let start = at .before .before .before in
-    row-served (start .pre) (at .loop .inv) (c .before .before .loop-test .taken)
+transform-row-requires c κs = search needs
 
 loop-less : tie.Need-loop-less Inv-loop μ-loop
 loop-less c =
     let at = c .before .before .before .before .before .before in
     let start = at .before .before .before in
-    omega (arith, row-some (start .pre) (at .loop .inv), c .before .before .before .before .before .loop-test .taken)
+    omega (arith, row-some (start .pre) (at .loop .inv), c .before .before .before .before .before .loop-test .taken, at .loop .inv .inside)
 
 loop-again : tie.Need-loop-again Inv-loop μ-loop
 loop-again c =
     let at = c .before .before .before .before .before .before in
     let start = at .before .before .before in
-    row-turned (start .pre) (at .loop .inv) (c .before .before .before .before .before .loop-test .taken) _ (c .before .before .transform-row .ensures)
+    row-turned (start .pre) (at .loop .inv) (omega (arith, c .before .before .before .before .before .loop-test .taken, at .loop .inv .inside)) (c .before .before .transform-row .result) _ (c .before .before .transform-row .ensures)
 
 same-length : tie.Need-same-length Inv-loop μ-loop
 same-length c = search needs
@@ -72,7 +69,7 @@ returns : tie.Need-returns Inv-loop μ-loop
 returns c =
     let at = c .before in
     let start = at .before .before .before in
-    rows-ended (start .pre) (at .loop .inv) (c .loop-test .left)
+    rows-ended (start .pre) (at .loop .inv) (omega (arith, c .loop-test .left))
 
 pub transform-rows-spec : {M : Type 1} → statement M
 transform-rows-spec =
@@ -82,12 +79,12 @@ transform-rows-spec =
     μ-loop
     loop-holds
     add-end
+    sub-row
+    part-row-start
+    part-row-end
     sub-transform-row
     part-transform-row-start
     part-transform-row-end
-    sub-transform-row-2
-    part-transform-row-start-2
-    part-transform-row-end-2
     transform-row-requires
     loop-less
     loop-again

@@ -1,4 +1,4 @@
--- `rows::undo` meets its contract: one channel by its running sum, several from the row's first words on. Assumes nothing.
+-- `rows::undo_words` meets its contract: one channel by its running sum, several from the row's first words on. Assumes nothing.
 use borrow.Author.Needs.{needs}
 use native.Mathlib.Nat.{mul-mod-left}
 use native.Mathlib.Omega.{arith}
@@ -6,8 +6,8 @@ use denote.Ref.{now}
 use Rattle.words.specs.Word.{Bytes}
 use Rattle.rows.specs.Row.{undoneAt}
 use Rattle.rows.proofs.Leading.{first-undone, goes-on, done-on}
-use Rattle.rows.proofs.undo.Statement.{statement}
-use Rattle.rows.proofs.undo.Tie as tie
+use Rattle.rows.proofs.undo_words.Statement.{statement}
+use Rattle.rows.proofs.undo_words.Tie as tie
 
 bytes : (c : tie.After-shared-slice-known) → Bytes (now (c .before .args .raw))
 bytes c i = omega (arith, c .shared-slice-known .given i)
@@ -44,5 +44,5 @@ returns-2 c =
     let start = start-known .before in
     done-on (undoneAt (now (start .args .raw)) (start .args .channels) (start .args .width) (start .args .le) (start .args .out-le)) (now (start .args .raw)) (start .args .channels) (start .args .width) (start .args .le) (start .args .out-le) (now (start .args .out)) _ (start .pre) (λ k h. first-undone (now (start .args .raw)) (bytes start-known) (start .args .channels) (start .args .width) (start .pre .fits .wide) (start .args .le) (start .args .out-le) k h) (c .before .before .before .before .before .before .lead .ensures) _ (c .before .before .trail .ensures)
 
-pub undo-spec : {M : Type 1} → statement M
-undo-spec = tie.close (tie.spec sum-requires mul-lead lead-requires trail-requires same-length returns same-length-2 returns-2)
+pub undo-words-spec : {M : Type 1} → statement M
+undo-words-spec = tie.close (tie.spec sum-requires mul-lead lead-requires trail-requires same-length returns same-length-2 returns-2)

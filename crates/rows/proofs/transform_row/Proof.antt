@@ -1,4 +1,4 @@
--- `rows::predict_row` meets its promise: the strip check's faults first, then the room. Assumes nothing.
+-- `rows::transform_row` meets its promise: the strip check's faults first, then the room. Assumes nothing.
 use borrow.Author.Needs.{needs}
 use borrow.Author.Tests.{lt-ltb, le-ltb}
 use mathlib.Core.Path.{ap, _∙_, sym}
@@ -6,11 +6,12 @@ use lib.ListN.{length}
 use denote.Ref.{now}
 use Rattle.answer.specs.Outcome.{here, next, none, Sound, doneOutcome}
 use Rattle.answer.proofs.Promised.{refuses, finishes, done-sound, first-more, sound-then, sound-more, refused-told}
+use Rattle.strips.specs.Sample.{storedAt}
 use Rattle.strips.specs.Promises.{stripFaults, convertFaults}
-use Rattle.rows.specs.Row.{oneRow, predictedAt}
+use Rattle.rows.specs.Row.{oneRow, meant}
 use Rattle.rows.proofs.Checked.{row-served}
-use Rattle.rows.proofs.predict_row.Statement.{statement}
-use Rattle.rows.proofs.predict_row.Tie as tie
+use Rattle.rows.proofs.transform_row.Statement.{statement}
+use Rattle.rows.proofs.transform_row.Tie as tie
 
 check-strip-requires : tie.Need-check-strip-requires
 check-strip-requires c κs = search needs
@@ -32,8 +33,8 @@ returns c =
     let args = c .before .before .before .before .before .before .args in
     refuses (convertFaults (now (args .raw)) (oneRow (now (args .raw)) (args .channels) (args .width)) (now (args .out))) tt _ _ (sound-then (checked (c .before)) (here (lt-ltb _ _ (c .if1 .taken))))
 
-predict-requires : tie.Need-predict-requires
-predict-requires c κs =
+transform-words-requires : tie.Need-transform-words-requires
+transform-words-requires c κs =
     let args = c .before .before .before .before .before .before .before .args in
     row-served (now (args .raw)) (args .channels) (args .width) _ (checked (c .before .before)) (c .before .if1 .left)
 
@@ -50,8 +51,8 @@ same-length c = search needs
 returns-3 : tie.Need-returns-3
 returns-3 c =
     let args = c .before .before .before .before .before .before .before .before .before .before .args in
-    finishes (convertFaults (now (args .raw)) (oneRow (now (args .raw)) (args .channels) (args .width)) (now (args .out))) tt (length (now (args .raw))) (predictedAt (now (args .raw)) (args .channels) (args .width) (args .le) (args .out-le)) _ _
-    (sound-more (checked (c .before .before .before .before .before)) (next (le-ltb _ _ (c .before .before .before .before .if1 .left)) none)) (c .before .before .predict .ensures)
+    finishes (convertFaults (now (args .raw)) (oneRow (now (args .raw)) (args .channels) (args .width)) (now (args .out))) tt (length (now (args .raw))) (storedAt (args .width) (args .out-le) (meant (args .forward) (oneRow (now (args .raw)) (args .channels) (args .width)) (args .predict) (args .le) (now (args .raw)))) _ _
+    (sound-more (checked (c .before .before .before .before .before)) (next (le-ltb _ _ (c .before .before .before .before .if1 .left)) none)) (c .before .before .transform-words .ensures)
 
-pub predict-row-spec : {M : Type 1} → statement M
-predict-row-spec = tie.close (tie.spec check-strip-requires enum-known-k enum-told returns predict-requires returns-2 same-length returns-3)
+pub transform-row-spec : {M : Type 1} → statement M
+transform-row-spec = tie.close (tie.spec check-strip-requires enum-known-k enum-told returns transform-words-requires returns-2 same-length returns-3)

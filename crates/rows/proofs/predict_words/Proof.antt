@@ -1,4 +1,4 @@
--- `rows::predict` meets its contract: the row's first words and then the rest. Assumes nothing.
+-- `rows::predict_words` meets its contract: the row's first words and then the rest. Assumes nothing.
 use borrow.Author.Needs.{needs}
 use native.Mathlib.Nat.{mul-mod-left}
 use native.Mathlib.Omega.{arith}
@@ -6,8 +6,8 @@ use denote.Ref.{now}
 use Rattle.words.specs.Word.{Bytes}
 use Rattle.rows.specs.Row.{predictedAt}
 use Rattle.rows.proofs.Leading.{first-predicted, goes-on, done-on}
-use Rattle.rows.proofs.predict.Statement.{statement}
-use Rattle.rows.proofs.predict.Tie as tie
+use Rattle.rows.proofs.predict_words.Statement.{statement}
+use Rattle.rows.proofs.predict_words.Tie as tie
 
 bytes : (c : tie.After-shared-slice-known) → Bytes (now (c .before .args .raw))
 bytes c i = omega (arith, c .shared-slice-known .given i)
@@ -35,5 +35,5 @@ returns c =
     let start = start-known .before in
     done-on (predictedAt (now (start .args .raw)) (start .args .channels) (start .args .width) (start .args .le) (start .args .out-le)) (now (start .args .raw)) (start .args .channels) (start .args .width) (start .args .le) (start .args .out-le) (now (start .args .out)) _ (start .pre) (λ k h. first-predicted (now (start .args .raw)) (bytes start-known) (start .args .channels) (start .args .width) (start .pre .fits .wide) (start .args .le) (start .args .out-le) k h) (c .before .before .before .before .before .before .lead .ensures) _ (c .before .before .difference .ensures)
 
-pub predict-spec : {M : Type 1} → statement M
-predict-spec = tie.close (tie.spec mul-lead lead-requires difference-requires same-length returns)
+pub predict-words-spec : {M : Type 1} → statement M
+predict-words-spec = tie.close (tie.spec mul-lead lead-requires difference-requires same-length returns)
