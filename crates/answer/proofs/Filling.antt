@@ -3,7 +3,7 @@
 use mathlib.Core.Path.{_≡_, refl, sym, ap, _∙_}
 use mathlib.Core.List.{List, [], _∷_, _++_, append-assoc, append-nil}
 use Prim.Native.Nat.{ℕ, zero, suc, _+_, _-_, _<_, _≤_}
-use native.Mathlib.Nat.{add-zero, add-suc}
+use native.Mathlib.Nat.{add-zero, add-suc, add-assoc}
 use native.Mathlib.Numerals.{add-one}
 use native.Mathlib.Decide.{decLt}
 use native.Mathlib.Omega.{arith}
@@ -39,9 +39,18 @@ length-filled i f old h = simp (length-append, length-table, length-drop) (omega
 pub filled-more : (i : ℕ) (f : ℕ → ℕ) (old : List ℕ) → i < length old → set (filled i f old) i (f i) ≡ filled (i + 1) f old
 filled-more i f old h = rw (add-one, drop-cons old i 0) (set-at (table i f) _ (drop (suc i) old) (f i) i (length-table i f) ∙ sym (append-assoc (table i f) (f i ∷ []) (drop (suc i) old)))
 
+-- what is as f has it already
+pub filled-keep : (i : ℕ) (f : ℕ → ℕ) (old : List ℕ) → i < length old → getD old i 0 ≡ f i → filled i f old ≡ filled (i + 1) f old
+filled-keep i f old h e = rw (add-one, drop-cons old i 0, e) (sym (append-assoc (table i f) (f i ∷ []) (drop (suc i) old)))
+
 pub length-stores : (out : List ℕ) (at n : ℕ) (g : ℕ → ℕ) → length (stores out at n g) ≡ length out
 length-stores out at zero g = refl
 length-stores out at (suc n) g = length-set (stores out at n g) (at + n) (g n) ∙ length-stores out at n g
+
+-- stores after stores
+pub stores-on : (out : List ℕ) (at n m : ℕ) (g h : ℕ → ℕ) → ((p : ℕ) → p < m → h p ≡ g (n + p)) → stores (stores out at n g) (at + n) m h ≡ stores out at (n + m) g
+stores-on out at n zero g h e = rw (add-zero n)
+stores-on out at n (suc m) g h e = rw (add-suc n m, stores-on out at n m g h (λ p l. e p (omega arith)), e m (omega arith), add-assoc at n m)
 
 -- what n stores put there, and what they leave
 pub stores-at : (out : List ℕ) (at n : ℕ) (g : ℕ → ℕ) (p : ℕ) → p < n → at + n ≤ length out → getD (stores out at n g) (at + p) 0 ≡ g p

@@ -1,0 +1,168 @@
+-- Laws of `struckAt` and `marked`: where a sample is struck; what the first mark in a row is, and what a later one is. Proofs cite
+-- these, not the definitions. Assumes nothing.
+use mathlib.Core.Path.{_≡_, refl, sym, ap, _∙_}
+use mathlib.Core.Bool.{Bool, true, false, not, _||_, or-false}
+use mathlib.Core.List.{List, [], _∷_}
+use Prim.Native.Nat.{ℕ, zero, suc, _+_, _-_, _/_, _%_, _≤_, _<_}
+use native.Mathlib.Nat.{mul-one}
+use native.Mathlib.Decide.{decLt}
+use native.Mathlib.Omega.{arith}
+use borrow.Author.Tests.{eqb-true, eqb-false, eq-eqb, ne-eqb, not-true, not-false}
+use lib.Dec.{eqb, ltb}
+use lib.ListN.{length, getD}
+use Rattle.answer.specs.Outcome.{pick}
+use Rattle.words.specs.Digits.{value}
+use Rattle.words.specs.Word.{wordAt}
+use Rattle.swaps.proofs.Mirror.{into-group}
+use Rattle.strips.specs.Sample.{Strip, alone}
+use Rattle.strips.proofs.Sums.{in-row, not-alone, first-alone}
+use Rattle.damage.specs.Marks.{damaged, anyBelow, struckAt, struck, tainted, marked, markByte}
+use Rattle.damage.specs.Passes.{markOf}
+
+-- past a list's end stands 0
+pub past-end : (l : List ℕ) (i : ℕ) → length l ≤ i → getD l i 0 ≡ 0
+past-end [] i h = refl
+past-end (x ∷ l) zero h = absurd (omega arith)
+past-end (x ∷ l) (suc i) h = past-end l i (omega arith)
+
+-- a mark is 0 or 1
+pub mark-small : (b : Bool) → markByte b ≤ 1
+mark-small true = omega arith
+mark-small false = omega arith
+
+-- neither of two
+pub neither : (a b : Bool) → (a || b) ≡ false → (a ≡ false) × (b ≡ false)
+neither true b e = absurd (let z : _≡_ {A = ℕ} 0 1 = cc in omega arith)
+neither false b e = (refl, e)
+
+any-none : (n : ℕ) (f : ℕ → Bool) → anyBelow n f ≡ false → (p : ℕ) → p < n → f p ≡ false
+any-none zero f e p h = absurd (omega arith)
+any-none (suc n) f e p h = by (decLt p n) (any-none n f (neither (anyBelow n f) (f n) e .0) p)
+  where
+    by : Dec (p < n) → (p < n → f p ≡ false) → f p ≡ false
+    by (yes l) below = below l
+    by (no m) below = let last : p ≡ n = omega arith in rw last (neither (anyBelow n f) (f n) e .1)
+
+-- a place below n at which f holds
+pub record Somewhere (n : ℕ) (f : ℕ → Bool) : Type 0 where
+  pub place : ℕ
+  pub below : place < n
+  pub holds : f place ≡ true
+
+any-some : (n : ℕ) (f : ℕ → Bool) → anyBelow n f ≡ true → Somewhere n f
+any-some zero f e = absurd (let z : _≡_ {A = ℕ} 0 1 = cc in omega arith)
+any-some (suc n) f e = by (f n) refl (any-some n f)
+  where
+    by : (b : Bool) → f n ≡ b → (anyBelow n f ≡ true → Somewhere n f) → Somewhere (suc n) f
+    by true t back = record { place = n; below = omega arith; holds = t }
+    by false t back =
+        let there = back (sym (or-false (anyBelow n f)) ∙ rw t at e) in
+        record { place = there .place; below = omega (arith, there .below); holds = there .holds }
+
+any-same : (n : ℕ) (f h : ℕ → Bool) → ((p : ℕ) → p < n → f p ≡ h p) → anyBelow n f ≡ anyBelow n h
+any-same zero f h e = refl
+any-same (suc n) f h e = rw (any-same n f h (λ p l. e p (omega arith)), e n (omega arith))
+
+-- a byte is damaged exactly if it is not 0
+pub damaged-hurt : (damage : List ℕ) (k : ℕ) → damaged damage k ≡ true → getD damage k 0 ≡ 0 → ⊥
+damaged-hurt damage k e = eqb-false (getD damage k 0) 0 (not-true (eqb (getD damage k 0) 0) e)
+
+pub undamaged-sound : (damage : List ℕ) (k : ℕ) → damaged damage k ≡ false → getD damage k 0 ≡ 0
+undamaged-sound damage k e = eqb-true (getD damage k 0) 0 (not-false (eqb (getD damage k 0) 0) e)
+
+module _ (width : ℕ) (damage : List ℕ) (at : ℕ) where
+  pub unstruck : struckAt width damage at ≡ false → (p : ℕ) → p < width → getD damage (at + p) 0 ≡ 0
+  unfolding struckAt
+  unstruck e p h = undamaged-sound damage (at + p) (any-none width (λ q. damaged damage (at + q)) e p h)
+
+  pub struck-where : struckAt width damage at ≡ true → Somewhere width (λ p. damaged damage (at + p))
+  unfolding struckAt
+  struck-where e = any-some width (λ p. damaged damage (at + p)) e
+
+  -- one damaged byte is enough
+  pub struck-here : (p : ℕ) → p < width → (getD damage (at + p) 0 ≡ 0 → ⊥) → struckAt width damage at ≡ true
+  struck-here p h hurt = by (struckAt width damage at) refl
+    where
+      by : (b : Bool) → struckAt width damage at ≡ b → b ≡ true
+      by true e = refl
+      by false e = absurd (hurt (unstruck e p h))
+
+pub struck-same : (width : ℕ) (s t : List ℕ) (i j : ℕ) → ((p : ℕ) → p < width → getD s (i + p) 0 ≡ getD t (j + p) 0) → struckAt width s i ≡ struckAt width t j
+unfolding struckAt
+struck-same width s t i j e = any-same width _ _ (λ p h. ap (λ (x : ℕ). not (eqb x 0)) (e p h))
+
+pub struck-one : (damage : List ℕ) (n : ℕ) → struck 1 damage n ≡ damaged damage n
+unfolding struckAt
+struck-one damage n = ap (damaged damage) (omega (arith, mul-one n))
+
+-- a word is 0 exactly if all its bytes are
+value-sound : (n : ℕ) (f : ℕ → ℕ) → ((p : ℕ) → p < n → f p ≡ 0) → value 256 n f ≡ 0
+value-sound zero f e = refl
+value-sound (suc n) f e = rw (e 0 (omega arith), value-sound n (λ p. f (suc p)) (λ p h. e (suc p) (omega arith)))
+
+sound-value : (n : ℕ) (f : ℕ → ℕ) → value 256 n f ≡ 0 → (p : ℕ) → p < n → f p ≡ 0
+sound-value zero f e p h = absurd (omega arith)
+sound-value (suc n) f e zero h = omega arith
+sound-value (suc n) f e (suc p) h = sound-value n (λ q. f (suc q)) (omega arith) p (omega arith)
+
+pub struck-word : (width : ℕ) (damage : List ℕ) (at : ℕ) → not (eqb (wordAt damage at width true) 0) ≡ struckAt width damage at
+struck-word width damage at = by (struckAt width damage at) refl
+  where
+    by : (b : Bool) → struckAt width damage at ≡ b → not (eqb (wordAt damage at width true) 0) ≡ b
+    by true e =
+        let there = struck-where width damage at e in
+        ap not (ne-eqb (wordAt damage at width true) 0 (λ z. damaged-hurt damage (at + there .place) (there .holds) (sound-value width (λ p. getD damage (at + p) 0) z (there .place) (there .below))))
+    by false e = ap not (eq-eqb (wordAt damage at width true) 0 (value-sound width (λ p. getD damage (at + p) 0) (unstruck width damage at e)))
+
+-- the mark of a word, and of a sample's own word
+pub mark-hurt : (word : ℕ) → (word ≡ 0 → ⊥) → markOf word ≡ 1
+mark-hurt word h = ap (λ (b : Bool). markByte (not b)) (ne-eqb word 0 h)
+
+pub mark-sound : (word : ℕ) → word ≡ 0 → markOf word ≡ 0
+mark-sound word h = ap (λ (b : Bool). markByte (not b)) (eq-eqb word 0 h)
+
+pub mark-word : (width : ℕ) (damage : List ℕ) (at r word : ℕ) → r ≡ markOf word → word ≡ wordAt damage at width true → r ≡ markByte (struckAt width damage at)
+mark-word width damage at r word e w = e ∙ ap markOf w ∙ ap markByte (struck-word width damage at)
+
+-- going back further than n changes nothing
+enough : (g : Strip) (predict : Bool) (some : 0 < g .channels) (w : ℕ → Bool) (a b n : ℕ) → n ≤ a → n ≤ b → tainted g predict w a n ≡ tainted g predict w b n
+enough g predict some w zero zero n ha hb = refl
+enough g predict some w zero (suc b) n ha hb = let none : n ≡ 0 = omega arith in rw (none, first-alone g predict some, or-false (w 0))
+enough g predict some w (suc a) zero n ha hb = let none : n ≡ 0 = omega arith in rw (none, first-alone g predict some, or-false (w 0))
+enough g predict some w (suc a) (suc b) n ha hb =
+    ap (λ (x : Bool). w n || pick (alone g predict n) false x) (enough g predict some w a b (n - g .channels) (omega arith) (omega arith))
+
+module _ (g : Strip) (predict : Bool) (damage : List ℕ) where
+  pub marked-alone : (n : ℕ) → alone g predict n ≡ true → marked g predict damage n ≡ struck (g .width) damage n
+  unfolding marked
+  marked-alone zero e = refl
+  marked-alone (suc n) e = rw e (or-false (struck (g .width) damage (suc n)))
+
+  pub marked-later : (n : ℕ) → 0 < g .channels → alone g predict n ≡ false → marked g predict damage n ≡ (struck (g .width) damage n || marked g predict damage (n - g .channels))
+  unfolding marked
+  marked-later zero some e = absurd (omega (arith, not-alone g predict 0 e))
+  marked-later (suc n) some e =
+      rw e (ap (λ (x : Bool). struck (g .width) damage (suc n) || x) (enough g predict some (struck (g .width) damage) n (suc n - g .channels) (suc n - g .channels) (omega arith) (omega arith)))
+
+-- two rows, of one strip or of two, with as many samples and channels, and struck alike: i and j are where they begin, counted in samples
+module _ (g h : Strip) (some : 0 < g .channels) (channels : g .channels ≡ h .channels) (per : g .row / g .width ≡ h .row / h .width) (predict : Bool) (s t : List ℕ) (i j : ℕ) (hi : i % (g .row / g .width) ≡ 0) (hj : j % (g .row / g .width) ≡ 0) (own : (m : ℕ) → m < g .row / g .width → struck (g .width) s (i + m) ≡ struck (h .width) t (j + m)) where
+  alike : (m : ℕ) → m < g .row / g .width → alone g predict (i + m) ≡ alone h predict (j + m)
+  alike m l =
+      let left = into-group (g .row / g .width) i m hi l in
+      let right = into-group (g .row / g .width) j m hj l in
+      rw (← channels, ← per) (ap (λ (x : ℕ). not predict || ltb x (g .channels)) (left ∙ sym right))
+
+  same-upto : (more m : ℕ) → m < more → m < g .row / g .width → marked g predict s (i + m) ≡ marked h predict t (j + m)
+  same-upto zero m l u = absurd (omega arith)
+  same-upto (suc more) m l u = by (alone g predict (i + m)) refl (λ d. same-upto more (m - g .channels) (omega arith) (omega arith))
+    where
+      by : (b : Bool) → alone g predict (i + m) ≡ b → (g .channels ≤ m → marked g predict s (i + (m - g .channels)) ≡ marked h predict t (j + (m - g .channels))) → marked g predict s (i + m) ≡ marked h predict t (j + m)
+      by true e back = marked-alone g predict s (i + m) e ∙ own m u ∙ sym (marked-alone h predict t (j + m) (sym (alike m u) ∙ e))
+      by false e back =
+          let d : g .channels ≤ m = omega (arith, in-row g predict (i + m) e, into-group (g .row / g .width) i m hi u) in
+          let left : i + m - g .channels ≡ i + (m - g .channels) = omega arith in
+          let right : j + m - h .channels ≡ j + (m - g .channels) = omega arith in
+          marked-later g predict s (i + m) some e ∙ rw (left, own m u, back d, ← right) (sym (marked-later h predict t (j + m) (omega arith) (sym (alike m u) ∙ e)))
+
+  pub same-marks : (m : ℕ) → m < g .row / g .width → marked g predict s (i + m) ≡ marked h predict t (j + m)
+  same-marks m u = same-upto (suc m) m (omega arith) u

@@ -1,0 +1,8 @@
+pub mod Says
+pub mod Steps
+pub mod Accepted
+pub mod Sizes
+pub mod Whole
+pub mod Placed
+pub mod Determined
+pub mod Theorems

@@ -1,0 +1,89 @@
+-- A test of the definitions and the plain fact that it stands for: each gives the other. Rules are put together from tests as facts are from facts.
+-- Assumes nothing.
+use Prim.Native.Nat.{ℕ}
+use mathlib.Core.Path.{_≡_, refl, sym}
+use mathlib.Core.Bool.{Bool, true, false, not, _&&_, _||_}
+use mathlib.Core.Logic.{_⊎_, inl, inr}
+use native.Mathlib.Omega.{arith}
+use borrow.Author.Tests.{eq-eqb, eqb-true, eqb-false, ne-eqb, not-true}
+use lib.Dec.{eqb}
+use Rattle.layout.specs.Layout.{implies}
+
+pub record Says (b : Bool) (P : Type 0) : Type 0 where
+  pub tells : b ≡ true → P
+  pub told : P → b ≡ true
+
+-- a flag is not up and down
+pub clash : {A : Type 0} {b : Bool} → b ≡ true → b ≡ false → A
+clash t f = absurd (let z : _≡_ {A = ℕ} 0 1 = cc in omega arith)
+
+-- what holds is no fault
+pub held : {b : Bool} → b ≡ true → not b ≡ false
+held e = rw e
+
+-- a test that was made by a call
+pub kept : {r b : Bool} → r ≡ b → not r ≡ false → not b ≡ false
+kept e h = rw e at h
+
+pub broken : {r b : Bool} → r ≡ b → not r ≡ true → not b ≡ true
+broken e h = rw e at h
+
+-- how a function that answers the test is right
+pub proved : {b : Bool} {P : Type 0} → Says b P → P → true ≡ b
+proved s p = sym (s .told p)
+
+pub refuted : {b : Bool} {P : Type 0} → Says b P → (P → ⊥) → false ≡ b
+refuted {b} {P} s n = by b refl
+  where
+    by : (x : Bool) → b ≡ x → false ≡ b
+    by true e = absurd (n (s .tells e))
+    by false e = sym e
+
+-- two tests of facts that give each other are one
+pub alike : {a b : Bool} {P Q : Type 0} → Says a P → Says b Q → (P → Q) → (Q → P) → a ≡ b
+alike {a} {b} {P} {Q} s r to from = by a refl
+  where
+    by : (x : Bool) → a ≡ x → a ≡ b
+    by true e = let t = r .told (to (s .tells e)) in cc
+    by false e = let t = refuted r (λ q. clash (s .told (from q)) e) in cc
+
+pub equal : (a b : ℕ) → Says (eqb a b) (a ≡ b)
+equal a b = record { tells = eqb-true a b; told = eq-eqb a b }
+
+pub differ : (a b : ℕ) → Says (not (eqb a b)) (a ≡ b → ⊥)
+differ a b = record { tells = λ e. eqb-false a b (not-true (eqb a b) e); told = λ n. rw (ne-eqb a b n) }
+
+pub up : (b : Bool) → Says b (b ≡ true)
+up b = record { tells = λ e. e; told = λ e. e }
+
+pub down : (b : Bool) → Says (not b) (b ≡ false)
+down b = record { tells = not-true b; told = λ e. rw e }
+
+pub both : {a b : Bool} {P Q : Type 0} → Says a P → Says b Q → Says (a && b) (P × Q)
+both {a} {b} {P} {Q} s r = record { tells = by a refl; told = λ p. rw (s .told (p .0), r .told (p .1)) }
+  where
+    by : (x : Bool) → a ≡ x → (x && b) ≡ true → P × Q
+    by true e t = (s .tells e, r .tells t)
+    by false e t = clash t refl
+
+pub either : {a b : Bool} {P Q : Type 0} → Says a P → Says b Q → Says (a || b) (P ⊎ Q)
+either {a} {b} {P} {Q} s r = record { tells = by a refl; told = back }
+  where
+    by : (x : Bool) → a ≡ x → (x || b) ≡ true → P ⊎ Q
+    by true e t = inl (s .tells e)
+    by false e t = inr (r .tells t)
+
+    back : P ⊎ Q → (a || b) ≡ true
+    back (inl p) = rw (s .told p)
+    back (inr q) = rw (r .told q) (last a)
+      where
+        last : (x : Bool) → (x || true) ≡ true
+        last true = refl
+        last false = refl
+
+pub whenever : {a b : Bool} {P Q : Type 0} → Says a P → Says b Q → Says (implies a b) (P → Q)
+whenever {a} {b} {P} {Q} s r = record { tells = λ t p. r .tells (rw (s .told p) at t); told = back a refl }
+  where
+    back : (x : Bool) → a ≡ x → (P → Q) → implies x b ≡ true
+    back true e f = r .told (f (s .tells e))
+    back false e f = refl

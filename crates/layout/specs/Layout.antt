@@ -1,0 +1,199 @@
+-- Layouts as document 01 has them: what a caller says, what follows from it, the faults in the document's order, and where a byte comes from.
+-- Assumes nothing.
+use Prim.{Unit}
+use Prim.Native.Nat.{ℕ, _+_, _-_, _*_, _/_, _%_, _<_}
+use mathlib.Core.Path.{_≡_}
+use mathlib.Core.Bool.{Bool, true, not, _&&_, _||_}
+use mathlib.Core.List.{List, [], _∷_, _++_}
+use lib.Dec.{eqb, ltb, leb}
+use Rattle.answer.specs.Outcome.{Outcome, done, refused, Fault, unless, unsupported, invalid, limit, number, pick, doneOutcome, Sound}
+use Rattle.answer.specs.declared.Done.{Done}
+use Rattle.layout.specs.declared.Fields.{Fields}
+use Rattle.layout.specs.declared.RasterLayout.{RasterLayout}
+use Rattle.layout.specs.declared.Checked.{Checked}
+use Rattle.layout.specs.declared.Checked.the-variants as Checked-is
+use Rattle.layout.specs.declared.Place.{Place}
+use Rattle.layout.specs.declared.Place.the-variants as Place-is
+
+-- the eleven numbers that a caller says
+abbrev pub fields : ℕ → ℕ → ℕ → ℕ → ℕ → Bool → Bool → Bool → Bool → ℕ → ℕ → Fields
+fields w h ch bytes slots palette separate le white alpha map =
+    record { w = w; h = h; ch = ch; bytes = bytes; slots = slots; palette = palette; separate = separate; le = le; white = white; alpha = alpha; map = map }
+
+-- what a record says, without what follows from it
+abbrev pub given : RasterLayout → Fields
+given l =
+    fields (l .w) (l .h) (l .ch) (l .bytes) (l .slots) (l .palette) (l .separate) (l .le) (l .white) (l .alpha) (l .map)
+
+-- what follows: bytes of a row of a plane, bytes at a place of a plane, planes, lengths, and colours of a palette
+unfoldable pub encodedWidth : Fields → ℕ
+encodedWidth f = (f .w - 1) / f .slots + 1
+
+unfoldable pub planeChannels : Fields → ℕ
+planeChannels f = pick (f .palette) 1 (pick (f .separate) (f .bytes) (f .ch * f .bytes))
+
+unfoldable pub planes : Fields → ℕ
+planes f = pick (f .separate) (f .ch) 1
+
+unfoldable pub planeLength : Fields → ℕ
+planeLength f = encodedWidth f * f .h * planeChannels f
+
+unfoldable pub scratchLength : Fields → ℕ
+scratchLength f = planeLength f * planes f
+
+unfoldable pub outputLength : Fields → ℕ
+outputLength f = f .w * f .h * f .ch * f .bytes
+
+unfoldable pub colours : Fields → ℕ
+colours f = pick (eqb (f .slots) 8) 2 (pick (eqb (f .slots) 2) 16 256)
+
+-- a record of what a caller says, with these numbers for what follows
+abbrev pub recordOf : Fields → ℕ → ℕ → ℕ → ℕ → ℕ → ℕ → ℕ → RasterLayout
+recordOf f row place planes plane scratch output colours =
+    record {
+      w = f .w;
+      h = f .h;
+      ch = f .ch;
+      bytes = f .bytes;
+      slots = f .slots;
+      palette = f .palette;
+      separate = f .separate;
+      le = f .le;
+      white = f .white;
+      alpha = f .alpha;
+      «encoded_width» = row;
+      «plane_channels» = place;
+      planes = planes;
+      «plane_len» = plane;
+      «scratch_len» = scratch;
+      «output_len» = output;
+      colors = colours;
+      map = f .map;
+    }
+
+-- the full record
+abbrev pub completed : Fields → RasterLayout
+completed f = recordOf f (encodedWidth f) (planeChannels f) (planes f) (planeLength f) (scratchLength f) (outputLength f) (colours f)
+
+-- step 3's limits: of a width or a height, and of a picture's bytes
+abbrev pub sideLimit : ℕ
+sideLimit = 16384
+
+abbrev pub byteLimit : ℕ
+byteLimit = 1073741824
+
+abbrev pub oneTwoEight : ℕ → Bool
+oneTwoEight n = eqb n 1 || eqb n 2 || eqb n 8
+
+abbrev pub implies : Bool → Bool → Bool
+implies a b = pick a b true
+
+-- step 2's rules: the clauses of `valid` over what a caller says
+unfoldable pub eightRule : Fields → Bool
+eightRule f = implies (eqb (f .bytes) 8) (not (f .white) && not (f .palette) && eqb (f .alpha) 0 && eqb (f .slots) 1 && (eqb (f .ch) 1 || eqb (f .ch) 3))
+
+unfoldable pub alphaRule : Fields → Bool
+alphaRule f = implies (not (eqb (f .alpha) 0)) (eqb (f .bytes) 1 && (eqb (f .ch) 2 || eqb (f .ch) 4) && not (f .palette))
+
+unfoldable pub paletteRule : Fields → Bool
+paletteRule f = implies (f .palette) (eqb (f .ch) 3 && eqb (f .bytes) 1 && oneTwoEight (f .slots) && not (f .separate) && eqb (f .alpha) 0)
+
+unfoldable pub slotsRule : Fields → Bool
+slotsRule f = implies (not (f .palette)) (eqb (f .slots) 1 || eqb (f .slots) 8 && eqb (f .ch) 1 && eqb (f .bytes) 1 && eqb (f .alpha) 0)
+
+-- document 01's three steps
+abbrev pub servedFaults : Fields → List Fault
+servedFaults f =
+    unsupported (not (oneTwoEight (f .bytes)))
+    ∷ unsupported (eqb (f .ch) 0)
+    ∷ unsupported (ltb 4 (f .ch))
+    ∷ unsupported (not (oneTwoEight (f .slots)))
+    ∷ unsupported (ltb 2 (f .alpha))
+    ∷ []
+
+abbrev pub agreedFaults : Fields → List Fault
+agreedFaults f =
+    invalid (eqb (f .w) 0)
+    ∷ invalid (eqb (f .h) 0)
+    ∷ invalid (not (eightRule f))
+    ∷ invalid (not (alphaRule f))
+    ∷ invalid (not (paletteRule f))
+    ∷ invalid (not (slotsRule f))
+    ∷ []
+
+abbrev pub sizeFaults : Fields → List Fault
+sizeFaults f =
+    limit (ltb sideLimit (f .w)) ∷ limit (ltb sideLimit (f .h)) ∷ limit (ltb byteLimit (outputLength f)) ∷ []
+
+abbrev pub layoutFaults : Fields → List Fault
+layoutFaults f = servedFaults f ++ (agreedFaults f ++ sizeFaults f)
+
+-- of two refusals the first
+abbrev pub firstOf : Outcome (Unit {0}) → Outcome (Unit {0}) → Outcome (Unit {0})
+firstOf (refused n) later = refused n
+firstOf (done a) later = later
+
+-- whether a record says of itself what follows from the rest of it
+unfoldable pub agreement : RasterLayout → RasterLayout → Bool
+agreement l right =
+    eqb (l .«encoded_width») (right .«encoded_width»)
+    && eqb (l .«plane_channels») (right .«plane_channels»)
+    && eqb (l .planes) (right .planes)
+    && eqb (l .«plane_len») (right .«plane_len»)
+    && eqb (l .«scratch_len») (right .«scratch_len»)
+    && eqb (l .«output_len») (right .«output_len»)
+    && eqb (l .colors) (right .colors)
+
+abbrev pub recordFaults : RasterLayout → List Fault
+recordFaults l = layoutFaults (given l) ++ (invalid (not (agreement l (completed (given l)))) ∷ [])
+
+-- where byte k of the picture comes from, as upstream's `source_index`: in rows of whole bytes if a byte holds several samples, or a place of the map
+abbrev pub packed : RasterLayout → Bool
+packed l = l .palette || eqb (l .slots) 8
+
+unfoldable pub packedIndex : RasterLayout → ℕ → ℕ
+packedIndex l k = k / l .ch / l .w * l .«encoded_width» + k / l .ch % l .w / l .slots
+
+-- the two bytes of a little-endian word change places
+unfoldable pub turned : ℕ → Bool → ℕ → ℕ
+turned bytes le c = pick (eqb bytes 2 && le) (c - c % 2 + 1 - c % 2) c
+
+-- else byte by byte, in one plane or in one for each channel
+unfoldable pub plainIndex : RasterLayout → ℕ → ℕ
+plainIndex l k =
+    let stride = l .ch * l .bytes in
+    let p = k / stride in
+    let c = turned (l .bytes) (l .le) (k % stride) in pick (l .separate) (c / l .bytes * l .«plane_len» + p * l .bytes + c % l .bytes) (p * stride + c)
+
+abbrev pub sourceIndex : RasterLayout → ℕ → ℕ
+sourceIndex l k = pick (packed l) (packedIndex l k) (plainIndex l k)
+
+-- a record without a fault, and a byte of its picture
+pub record Asked (l : RasterLayout) (k : ℕ) : Type 0 where
+  pub sound : Sound (recordFaults l)
+  pub within : k < l .«output_len»
+
+abbrev pub indexFaults : RasterLayout → ℕ → List Fault
+indexFaults l k = recordFaults l ++ (invalid (leb (l .«output_len») k) ∷ [])
+
+-- document 01's numbers and values of the answers
+abbrev pub checkedOutcome : Checked → Outcome RasterLayout
+checkedOutcome (Checked-is.Done l) = done l
+checkedOutcome (Checked-is.Refused k) = refused (number k)
+
+abbrev pub placeOutcome : Place → Outcome ℕ
+placeOutcome (Place-is.Done at) = done (at .0)
+placeOutcome (Place-is.Refused k) = refused (number k)
+
+-- what the functions promise
+abbrev pub StepPassed : List Fault → Done → Type 0
+StepPassed faults answer = doneOutcome answer ≡ unless faults tt
+
+abbrev pub LayoutChecked : Fields → Checked → Type 0
+LayoutChecked f answer = checkedOutcome answer ≡ unless (layoutFaults f) (completed f)
+
+abbrev pub RecordChecked : RasterLayout → Done → Type 0
+RecordChecked l answer = StepPassed (recordFaults l) answer
+
+abbrev pub Indexed : RasterLayout → ℕ → Place → Type 0
+Indexed l k answer = placeOutcome answer ≡ unless (indexFaults l k) (sourceIndex l k)

@@ -1,0 +1,194 @@
+use answer::ByteAt;
+use answer::Done;
+use answer::Refusal;
+
+mod derived;
+mod rules;
+mod source;
+
+ghost use mathlib.Core.Path.{_≡_};
+ghost use Rattle.answer.specs.Outcome.{doneOutcome};
+ghost use Rattle.layout.specs.Layout.{fields, given as givenOf, layoutFaults, firstOf, agreement, StepPassed, LayoutChecked, RecordChecked, Indexed};
+
+// What a caller says of a picture: all of a record that is not worked out.
+pub struct Fields {
+    pub w: usize,
+    pub h: usize,
+    pub ch: usize,
+    pub bytes: usize,
+    pub slots: usize,
+    pub palette: bool,
+    pub separate: bool,
+    pub le: bool,
+    pub white: bool,
+    pub alpha: usize,
+    pub map: usize,
+}
+
+// A picture's layout: what a caller says, and what follows from it.
+pub struct RasterLayout {
+    pub w: usize,
+    pub h: usize,
+    pub ch: usize,
+    pub bytes: usize,
+    pub slots: usize,
+    pub palette: bool,
+    pub separate: bool,
+    pub le: bool,
+    pub white: bool,
+    pub alpha: usize,
+    pub encoded_width: usize,
+    pub plane_channels: usize,
+    pub planes: usize,
+    pub plane_len: usize,
+    pub scratch_len: usize,
+    pub output_len: usize,
+    pub colors: usize,
+    pub map: usize,
+}
+
+// The answer of `check_layout`.
+pub enum Checked {
+    Done(RasterLayout),
+    Refused(Refusal),
+}
+
+// The answer of `index`.
+pub enum Place {
+    Done(ByteAt),
+    Refused(Refusal),
+}
+
+// Of two answers the first refusal.
+fn first_of(one: Done, later: Done) -> Done
+    ensures { λ r. ⌜ doneOutcome r ≡ firstOf (doneOutcome one) (doneOutcome later) ⌝ }
+{
+    match one {
+        Done::Refused(k) => Done::Refused(k),
+        Done::Done => later,
+    }
+}
+
+// The three steps, in document 01's order. The third multiplies, so it waits for what the first shows.
+fn check_fields(f: Fields) -> Done
+    ensures { λ r. ⌜ StepPassed (layoutFaults f) r ⌝ }
+{
+    let served = rules::check_served(f);
+    let agreed = rules::check_agreed(f);
+    match first_of(served, agreed) {
+        Done::Refused(k) => Done::Refused(k),
+        Done::Done => rules::check_size(f),
+    }
+}
+
+// What a record says, without what follows from it.
+fn given(l: RasterLayout) -> Fields
+    ensures { λ r. ⌜ r ≡ givenOf l ⌝ }
+{
+    Fields {
+        w: l.w,
+        h: l.h,
+        ch: l.ch,
+        bytes: l.bytes,
+        slots: l.slots,
+        palette: l.palette,
+        separate: l.separate,
+        le: l.le,
+        white: l.white,
+        alpha: l.alpha,
+        map: l.map,
+    }
+}
+
+// The full record of a picture, if there is one.
+pub fn check_layout(
+    w: usize,
+    h: usize,
+    ch: usize,
+    bytes: usize,
+    slots: usize,
+    palette: bool,
+    separate: bool,
+    le: bool,
+    white: bool,
+    alpha: usize,
+    map: usize,
+) -> Checked
+    ensures { λ r. ⌜ LayoutChecked (fields w h ch bytes slots palette separate le white alpha map) r ⌝ }
+{
+    let f = Fields {
+        w,
+        h,
+        ch,
+        bytes,
+        slots,
+        palette,
+        separate,
+        le,
+        white,
+        alpha,
+        map,
+    };
+    match check_fields(f) {
+        Done::Refused(k) => Checked::Refused(k),
+        Done::Done => Checked::Done(derived::complete(f)),
+    }
+}
+
+// Whether a record says of itself what follows from the rest of it.
+fn agrees(l: RasterLayout, right: RasterLayout) -> bool
+    ensures { λ r. ⌜ r ≡ agreement l right ⌝ }
+{
+    if l.encoded_width != right.encoded_width {
+        return false;
+    }
+    if l.plane_channels != right.plane_channels {
+        return false;
+    }
+    if l.planes != right.planes {
+        return false;
+    }
+    if l.plane_len != right.plane_len {
+        return false;
+    }
+    if l.scratch_len != right.scratch_len {
+        return false;
+    }
+    if l.output_len != right.output_len {
+        return false;
+    }
+    l.colors == right.colors
+}
+
+// Whether a record, by hand or not, is the one that the check answers.
+pub fn check_record(l: RasterLayout) -> Done
+    ensures { λ r. ⌜ RecordChecked l r ⌝ }
+{
+    let f = given(l);
+    match check_fields(f) {
+        Done::Refused(k) => Done::Refused(k),
+        Done::Done => {
+            if agrees(l, derived::complete(f)) {
+                Done::Done
+            } else {
+                Done::Refused(Refusal::Invalid)
+            }
+        }
+    }
+}
+
+// Where byte k of the picture comes from.
+pub fn index(l: RasterLayout, k: ByteAt) -> Place
+    ensures { λ r. ⌜ Indexed l (k .0) r ⌝ }
+{
+    match check_record(l) {
+        Done::Refused(kind) => Place::Refused(kind),
+        Done::Done => {
+            let k = k.0;
+            if l.output_len <= k {
+                return Place::Refused(Refusal::Invalid);
+            }
+            Place::Done(ByteAt(source::source_index(l, k)))
+        }
+    }
+}

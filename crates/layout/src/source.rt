@@ -1,0 +1,60 @@
+use crate::RasterLayout;
+ghost use mathlib.Core.Path.{_≡_};
+ghost use mathlib.Core.Bool.{true, false};
+ghost use Rattle.layout.specs.Layout.{Asked, packed, packedIndex, turned, plainIndex, sourceIndex};
+
+// Whether a byte of a plane holds several samples, or a place of the map.
+fn is_packed(l: RasterLayout) -> bool
+    ensures { λ r. ⌜ r ≡ packed l ⌝ }
+{
+    if l.palette {
+        return true;
+    }
+    l.slots == 8
+}
+
+// Rows of whole bytes.
+fn packed_index(l: RasterLayout, k: usize) -> usize
+    requires { ⌜ (Asked l k) × (packed l ≡ true) ⌝ }
+    ensures { λ r. ⌜ r ≡ packedIndex l k ⌝ }
+{
+    let p = k / l.ch;
+    p / l.w * l.encoded_width + p % l.w / l.slots
+}
+
+// The two bytes of a little-endian word change places.
+fn turn(bytes: usize, le: bool, c: usize) -> usize
+    ensures { λ r. ⌜ r ≡ turned bytes le c ⌝ }
+{
+    if bytes != 2 {
+        return c;
+    }
+    if le { c - c % 2 + 1 - c % 2 } else { c }
+}
+
+// Whole bytes, in one plane or in one for each channel.
+fn plain_index(l: RasterLayout, k: usize) -> usize
+    requires { ⌜ (Asked l k) × (packed l ≡ false) ⌝ }
+    ensures { λ r. ⌜ r ≡ plainIndex l k ⌝ }
+{
+    let stride = l.ch * l.bytes;
+    let p = k / stride;
+    let c = turn(l.bytes, l.le, k % stride);
+    if l.separate {
+        c / l.bytes * l.plane_len + p * l.bytes + c % l.bytes
+    } else {
+        p * stride + c
+    }
+}
+
+// Where byte k of the picture comes from.
+pub(crate) fn source_index(l: RasterLayout, k: usize) -> usize
+    requires { ⌜ Asked l k ⌝ }
+    ensures { λ r. ⌜ r ≡ sourceIndex l k ⌝ }
+{
+    if is_packed(l) {
+        packed_index(l, k)
+    } else {
+        plain_index(l, k)
+    }
+}

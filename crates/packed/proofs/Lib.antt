@@ -1,0 +1,4 @@
+pub mod Spreading
+pub mod Painting
+pub mod Packing
+pub mod Determined

@@ -1,0 +1,78 @@
+-- `packed::bits::spread` meets its contract: a store for each bit. Assumes nothing.
+use borrow.Author.Needs.{needs}
+use Prim.Native.Nat.{ℕ, _+_, _-_, _*_, _/_, _%_, _^_, _≤_}
+use mathlib.Core.Path.{_≡_, refl, ap}
+use mathlib.Core.List.{List}
+use native.Mathlib.Numerals.{add-one}
+use native.Mathlib.Omega.{arith}
+use lib.ListN.{length, set, length-set}
+use Rattle.answer.specs.Table.{stores}
+use Rattle.packed.proofs.bits.spread.Statement.{statement}
+use Rattle.packed.proofs.bits.spread.Tie as tie
+
+abbrev Inv-loop : tie.InvT-loop
+Inv-loop t n out₀ at p₀ out p = (p ≤ n) × (length out ≡ length out₀) × (out ≡ stores out₀ at p (λ k. 255 * (t / 2 ^ (7 - k) % 2)))
+
+abbrev μ-loop : tie.MeasureT-loop
+μ-loop t n out₀ at p₀ out p = n - p
+
+loop-holds : tie.Need-loop-holds Inv-loop μ-loop
+loop-holds c = (omega arith, refl, refl)
+
+sub-out : tie.Need-sub-out Inv-loop μ-loop
+sub-out c = search needs
+
+cast-out : tie.Need-cast-out Inv-loop μ-loop
+cast-out c = search needs
+
+shr-out : tie.Need-shr-out Inv-loop μ-loop
+shr-out c = search needs
+
+mul-out : tie.Need-mul-out Inv-loop μ-loop
+mul-out c = search needs
+
+add-out : tie.Need-add-out Inv-loop μ-loop
+add-out c = search needs
+
+slice-write-out : tie.Need-slice-write-out Inv-loop μ-loop
+slice-write-out c = omega arith
+
+add-p : tie.Need-add-p Inv-loop μ-loop
+add-p c = search needs
+
+loop-less : tie.Need-loop-less Inv-loop μ-loop
+loop-less c = search needs
+
+loop-again : tie.Need-loop-again Inv-loop μ-loop
+loop-again c =
+    let at = c .before in
+    let args = at .before .args in
+    (omega arith, simp length-set (omega arith), rw (add-one (at .loop .p)) (ap (λ (l : List ℕ). set l (args .at + at .loop .p) (255 * (args .t / 2 ^ (7 - at .loop .p) % 2))) (at .loop .inv .2)))
+
+same-length : tie.Need-same-length Inv-loop μ-loop
+same-length c = search needs
+
+returns : tie.Need-returns Inv-loop μ-loop
+returns c =
+    let at = c .before in
+    let all : at .loop .p ≡ at .before .args .n = omega arith in
+    rw all at (at .loop .inv .2)
+
+pub spread-spec : {M : Type 1} → statement M
+spread-spec =
+    tie.close
+    (tie.spec
+    Inv-loop
+    μ-loop
+    loop-holds
+    sub-out
+    cast-out
+    shr-out
+    mul-out
+    add-out
+    slice-write-out
+    add-p
+    loop-less
+    loop-again
+    same-length
+    returns)

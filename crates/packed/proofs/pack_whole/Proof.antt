@@ -1,0 +1,69 @@
+-- `packed::pack_whole` meets its contract: a byte for each eight columns. Assumes nothing.
+use borrow.Author.Needs.{needs}
+use Prim.Native.Nat.{_-_, _/_, _≤_}
+use mathlib.Core.Path.{_≡_, refl}
+use native.Mathlib.Omega.{arith}
+use lib.ListN.{length, length-set}
+use denote.Ref.{now}
+use Rattle.answer.specs.Table.{filled}
+use Rattle.answer.proofs.Filling.{filled-more}
+use Rattle.packed.specs.Rows.{packedAt}
+use Rattle.packed.proofs.pack_whole.Statement.{statement}
+use Rattle.packed.proofs.pack_whole.Tie as tie
+
+abbrev Inv-loop : tie.InvT-loop
+Inv-loop picture white out₀ bytes b₀ out b = (b ≤ length picture / 8) × (length out ≡ length out₀) × (out ≡ filled b (packedAt white picture) out₀)
+
+abbrev μ-loop : tie.MeasureT-loop
+μ-loop picture white out₀ bytes b₀ out b = length picture / 8 - b
+
+loop-holds : tie.Need-loop-holds Inv-loop μ-loop
+loop-holds c = (omega arith, refl, refl)
+
+mul-full-byte : tie.Need-mul-full-byte Inv-loop μ-loop
+mul-full-byte c = search needs
+
+full-byte-requires : tie.Need-full-byte-requires Inv-loop μ-loop
+full-byte-requires c κs = search needs
+
+slice-write-out : tie.Need-slice-write-out Inv-loop μ-loop
+slice-write-out c = omega arith
+
+add-b : tie.Need-add-b Inv-loop μ-loop
+add-b c = search needs
+
+loop-less : tie.Need-loop-less Inv-loop μ-loop
+loop-less c = search needs
+
+loop-again : tie.Need-loop-again Inv-loop μ-loop
+unfolding packedAt
+loop-again c =
+    let at = c .before .before in
+    let args = at .before .before .before .args in
+    let byte : c .full-byte .result ≡ packedAt (args .white) (now (args .picture)) (at .loop .b) = c .full-byte .ensures in
+    (omega arith, simp length-set (omega arith), rw (byte, at .loop .inv .2) (filled-more (at .loop .b) (packedAt (args .white) (now (args .picture))) (now (args .out)) (omega arith)))
+
+same-length : tie.Need-same-length Inv-loop μ-loop
+same-length c = search needs
+
+returns : tie.Need-returns Inv-loop μ-loop
+returns c =
+    let at = c .before in
+    let all : at .loop .b ≡ length (now (at .before .before .before .args .picture)) / 8 = omega arith in
+    rw all at (at .loop .inv .2)
+
+pub pack-whole-spec : {M : Type 1} → statement M
+pack-whole-spec =
+    tie.close
+    (tie.spec
+    Inv-loop
+    μ-loop
+    loop-holds
+    mul-full-byte
+    full-byte-requires
+    slice-write-out
+    add-b
+    loop-less
+    loop-again
+    same-length
+    returns)

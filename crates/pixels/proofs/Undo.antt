@@ -1,0 +1,220 @@
+-- Rendering what was written gives the picture, and writing what was rendered gives the planes, but for bilevel padding bits, which become 0.
+-- Byte by byte, over every layout that both serve. Assumes nothing.
+use Prim.Native.Nat.{ℕ, zero, suc, _+_, _-_, _*_, _/_, _%_, _^_, _≤_, _<_}
+use mathlib.Core.Path.{_≡_, refl, sym, ap, _∙_}
+use mathlib.Core.Bool.{Bool, true, false, not, _&&_, _||_}
+use mathlib.Core.List.{List}
+use mathlib.Core.Logic.{_⊎_, inl, inr}
+use native.Mathlib.Nat.{div-one, mod-lt, div-add-mod', div-lt-iff-lt-mul, mul-one, mul-comm}
+use native.Mathlib.Omega.{arith}
+use borrow.Author.Tests.{eq-eqb, ne-eqb, eqb-true, lt-ltb, ltb-true, not-false}
+use native.Mathlib.Decide.{decLt}
+use lib.ListN.{getD}
+use lib.Dec.{eqb, ltb}
+use Rattle.answer.specs.Outcome.{Sound, pick}
+use Rattle.answer.specs.Table.{table}
+use Rattle.answer.proofs.Filling.{table-at}
+use Rattle.words.specs.Digits.{digit, value}
+use Rattle.words.specs.Word.{Bytes}
+use Rattle.words.proofs.Digits.{digit-below, digit-value, value-same}
+use Rattle.strips.specs.Promises.{apart}
+use Rattle.layout.specs.declared.RasterLayout.{RasterLayout}
+use Rattle.layout.specs.Layout.{given, recordFaults, packed, packedIndex, sourceIndex}
+use Rattle.layout.proofs.Says.{Says, up, equal, both, either}
+use Rattle.layout.proofs.Accepted.{bilevel}
+use Rattle.layout.proofs.Whole.{record-accepted}
+use Rattle.layout.proofs.Placed.{grouped, output-is, scratch-is, packed-one, plain-one, row-within, source-below}
+use Rattle.pixels.specs.Render.{flipped, straightColour, source, bilevelByte, lastChannel, plainByte, converted}
+use Rattle.pixels.specs.Planes.{placeIndex, flips, bilevelBit, column, bilevelPlane, written, unpadded, twoLevels}
+use Rattle.pixels.proofs.Places.{group-of, item-of, place-source, source-place}
+
+pub flipped-flipped : (b : Bool) (v : ℕ) → v < 256 → flipped b (flipped b v) ≡ v
+flipped-flipped true v h = omega arith
+flipped-flipped false v h = refl
+
+pub picked : {b : Bool} (x y : ℕ) → b ≡ true → pick b x y ≡ x
+picked x y e = rw e
+
+pub passed : {b : Bool} (x y : ℕ) → b ≡ false → pick b x y ≡ y
+passed x y e = rw e
+
+-- a byte of two levels and its bit
+pub level-bit : (white : Bool) (v : ℕ) → (v ≡ 0) ⊎ (v ≡ 255) → pick (apart (eqb (bilevelBit white v) 0) white) 0 255 ≡ v
+level-bit true v (inl e) = rw e
+level-bit true v (inr e) = rw e
+level-bit false v (inl e) = rw e
+level-bit false v (inr e) = rw e
+
+pub bit-level : (white : Bool) (b : ℕ) → b < 2 → bilevelBit white (pick (apart (eqb b 0) white) 0 255) ≡ b
+bit-level true zero h = refl
+bit-level true (suc zero) h = refl
+bit-level false zero h = refl
+bit-level false (suc zero) h = refl
+bit-level white (suc (suc n)) h = absurd (omega arith)
+
+-- what white does without alpha kind 1
+plain-flipped : (l : RasterLayout) (raw : List ℕ) (k : ℕ) → eqb (l .alpha) 1 ≡ false → plainByte l raw k ≡ flipped (flips l k) (source l raw k)
+unfolding plainByte
+plain-flipped l raw k one = rw one (by (eqb (l .alpha) 0) (lastChannel l k) (l .white))
+  where
+    by : (none last white : Bool) → pick (not none && not last) (flipped white (source l raw k)) (flipped (white && none) (source l raw k)) ≡ flipped (white && (none || not last)) (source l raw k)
+    by true true true = refl
+    by true true false = refl
+    by true false true = refl
+    by true false false = refl
+    by false true true = refl
+    by false true false = refl
+    by false false true = refl
+    by false false false = refl
+
+bit-below : (white : Bool) (v : ℕ) → bilevelBit white v < 2
+bit-below white v = by (apart (eqb v 0) white)
+  where
+    by : (b : Bool) → pick b 0 1 < 2
+    by true = omega arith
+    by false = omega arith
+
+pick-below : (b : Bool) {v : ℕ} → v < 2 → pick b v 0 < 2
+pick-below true h = h
+pick-below false h = omega arith
+
+module _ (l : RasterLayout) (s : Sound (recordFaults l)) (off : l .palette ≡ false) where
+  -- bilevel: column x of row y
+  module _ (eight : l .slots ≡ 8) where
+    is-packed : packed l ≡ true
+    is-packed = rw (off, eight)
+
+    one : ((l .ch ≡ 1) × (l .bytes ≡ 1)) × (l .alpha ≡ 0)
+    one = bilevel (record-accepted l s) off eight
+
+    pub bilevel-output : l .«output_len» ≡ l .h * l .w
+    bilevel-output = output-is l s ∙ rw (one .0 .0, one .0 .1, mul-one) (mul-comm (l .w) (l .h))
+
+    pub bilevel-scratch : l .«scratch_len» ≡ l .h * l .«encoded_width»
+    bilevel-scratch = scratch-is l s ∙ rw (packed-one l s is-packed .1, mul-one) (mul-comm (l .«encoded_width») (l .h))
+
+    pub bilevel-source : (y x : ℕ) → x < l .w → sourceIndex l (y * l .w + x) ≡ y * l .«encoded_width» + x / 8
+    unfolding packedIndex
+    bilevel-source y x h = rw (is-packed, one .0 .0, div-one, group-of y (l .w) h, item-of y (l .w) h, eight)
+
+    pub bilevel-converted : (file raw : List ℕ) (y x : ℕ) → x < l .w → converted l file raw (y * l .w + x) ≡ bilevelByte (l .white) x (getD raw (y * l .«encoded_width» + x / 8) 0)
+    unfolding converted
+    bilevel-converted file raw y x h =
+        passed _ _ off
+        ∙ picked _ _ (eq-eqb (l .slots) 8 eight)
+        ∙ ap (λ (n : ℕ). bilevelByte (l .white) n (source l raw (y * l .w + x))) (item-of y (l .w) h)
+        ∙ ap (λ (i : ℕ). bilevelByte (l .white) x (getD raw i 0)) (bilevel-source y x h)
+
+    -- the bit of a column
+    pub bilevel-bit : (picture : List ℕ) (y x : ℕ) → x < l .w → digit 2 (7 - x % 8) (bilevelPlane l picture (y * l .«encoded_width» + x / 8)) ≡ bilevelBit (l .white) (getD picture (y * l .w + x) 0)
+    unfolding bilevelPlane
+    bilevel-bit picture y x h =
+        let room : x / 8 < l .«encoded_width» = rw eight at (row-within l s x h) in
+        let here : 8 * (x / 8) + (7 - (7 - x % 8)) ≡ x = omega arith in
+        rw (group-of y (l .«encoded_width») room, item-of y (l .«encoded_width») room)
+        (digit-value 2 8 (λ p. pick (ltb (8 * (x / 8) + (7 - p)) (l .w)) (bilevelBit (l .white) (getD picture (y * l .w + (8 * (x / 8) + (7 - p))) 0)) 0) (λ p q. pick-below (ltb (8 * (x / 8) + (7 - p)) (l .w)) (bit-below (l .white) (getD picture (y * l .w + (8 * (x / 8) + (7 - p))) 0))) (7 - x % 8) (omega arith)
+        ∙ rw (here, lt-ltb x (l .w) h))
+
+    -- rendered from what was written
+    pub bilevel-render-written : (file picture : List ℕ) (k : ℕ) → k < l .«output_len» → (getD picture k 0 ≡ 0) ⊎ (getD picture k 0 ≡ 255) → converted l file (table (l .«scratch_len») (written l picture)) k ≡ getD picture k 0
+    unfolding written
+    bilevel-render-written file picture k h levels =
+        let y = k / l .w in
+        let x = k % l .w in
+        let wide = record-accepted l s .wide in
+        let column-in : x < l .w = mod-lt k wide in
+        let here : y * l .w + x ≡ k = div-add-mod' k (l .w) in
+        let row : y < l .h = div-lt-iff-lt-mul wide .1 (omega (arith, bilevel-output)) in
+        let room : x / 8 < l .«encoded_width» = rw eight at (row-within l s x column-in) in
+        let place : y * l .«encoded_width» + x / 8 < l .«scratch_len» = omega (arith, bilevel-scratch, grouped row room) in
+        ap (converted l file (table (l .«scratch_len») (written l picture))) (sym here)
+        ∙ bilevel-converted file (table (l .«scratch_len») (written l picture)) y x column-in
+        ∙ ap (bilevelByte (l .white) x) (table-at (l .«scratch_len») (written l picture) (y * l .«encoded_width» + x / 8) place ∙ picked _ _ (eq-eqb (l .slots) 8 eight))
+        ∙ ap (λ (b : ℕ). pick (apart (eqb b 0) (l .white)) 0 255) (bilevel-bit picture y x column-in)
+        ∙ ap (λ (i : ℕ). pick (apart (eqb (bilevelBit (l .white) (getD picture i 0)) 0) (l .white)) 0 255) here
+        ∙ level-bit (l .white) (getD picture k 0) levels
+
+    -- written from what was rendered
+    pub bilevel-write-rendered : (file raw : List ℕ) (i : ℕ) → i < l .«scratch_len» → written l (table (l .«output_len») (converted l file raw)) i ≡ unpadded l raw i
+    unfolding written unpadded bilevelPlane
+    bilevel-write-rendered file raw i h =
+        picked _ _ (eq-eqb (l .slots) 8 eight)
+        ∙ value-same 2 8 _ _ (λ p q. each p q (ltb (column l i p) (l .w)) refl)
+        ∙ sym (picked _ _ (eq-eqb (l .slots) 8 eight))
+      where
+        some : 0 < l .«encoded_width»
+        some = omega (arith, row-within l s 0 (record-accepted l s .wide))
+
+        each : (p : ℕ) → p < 8 → (b : Bool) → ltb (column l i p) (l .w) ≡ b → pick b (bilevelBit (l .white) (getD (table (l .«output_len») (converted l file raw)) (i / l .«encoded_width» * l .w + column l i p) 0)) 0 ≡ pick b (digit 2 p (getD raw i 0)) 0
+        each p q false e = refl
+        each p q true e =
+            let y = i / l .«encoded_width» in
+            let x = column l i p in
+            let column-in : x < l .w = ltb-true x (l .w) e in
+            let row : y < l .h = div-lt-iff-lt-mul some .1 (omega (arith, bilevel-scratch)) in
+            let bit : 7 - x % 8 ≡ p = omega arith in
+            let byte : y * l .«encoded_width» + x / 8 ≡ i = omega (arith, div-add-mod' i (l .«encoded_width»)) in
+            ap (bilevelBit (l .white)) (table-at (l .«output_len») (converted l file raw) (y * l .w + x) (omega (arith, bilevel-output, grouped row column-in)) ∙ bilevel-converted file raw y x column-in)
+            ∙ bit-level (l .white) (getD raw (y * l .«encoded_width» + x / 8) 0 / 2 ^ (7 - x % 8) % 2) (mod-lt _ (omega arith))
+            ∙ rw (bit, byte)
+
+  -- a byte to a place
+  module _ (plain : packed l ≡ false) (kind : eqb (l .alpha) 1 ≡ false) where
+    several : eqb (l .slots) 8 ≡ false
+    several = rw (plain-one l s plain .1)
+
+    plain-converted : (file raw : List ℕ) (k : ℕ) → converted l file raw k ≡ flipped (flips l k) (source l raw k)
+    unfolding converted
+    plain-converted file raw k = passed _ _ off ∙ passed _ _ several ∙ plain-flipped l raw k kind
+
+    plain-written : (picture : List ℕ) (i : ℕ) → written l picture i ≡ flipped (flips l (placeIndex l i)) (getD picture (placeIndex l i) 0)
+    unfolding written
+    plain-written picture i = passed _ _ several
+
+    plain-render-written : (file picture : List ℕ) (k : ℕ) → k < l .«output_len» → Bytes picture → converted l file (table (l .«scratch_len») (written l picture)) k ≡ getD picture k 0
+    plain-render-written file picture k h bytes =
+        plain-converted file (table (l .«scratch_len») (written l picture)) k
+        ∙ ap (flipped (flips l k))
+        (table-at (l .«scratch_len») (written l picture) (sourceIndex l k) (source-below l s k h)
+        ∙ plain-written picture (sourceIndex l k)
+        ∙ ap (λ (n : ℕ). flipped (flips l n) (getD picture n 0)) (place-source l s plain k h))
+        ∙ flipped-flipped (flips l k) (getD picture k 0) (bytes k)
+
+    plain-write-rendered : (file raw : List ℕ) (i : ℕ) → i < l .«scratch_len» → Bytes raw → written l (table (l .«output_len») (converted l file raw)) i ≡ unpadded l raw i
+    unfolding unpadded
+    plain-write-rendered file raw i h bytes =
+        let k = placeIndex l i in
+        let back = source-place l s plain i h in
+        plain-written (table (l .«output_len») (converted l file raw)) i
+        ∙ ap (flipped (flips l k)) (table-at (l .«output_len») (converted l file raw) k (back .0) ∙ plain-converted file raw k)
+        ∙ flipped-flipped (flips l k) (source l raw k) (bytes (sourceIndex l k))
+        ∙ ap (λ (n : ℕ). getD raw n 0) (back .1)
+        ∙ sym (passed _ _ several)
+
+-- a picture of two levels
+pub levels : (n : ℕ) (picture : List ℕ) → twoLevels n picture ≡ true → (k : ℕ) → k < n → (getD picture k 0 ≡ 0) ⊎ (getD picture k 0 ≡ 255)
+levels zero picture e k h = absurd (omega arith)
+levels (suc n) picture e k h = by (decLt k n) (levels n picture)
+  where
+    each : Says (twoLevels n picture && (eqb (getD picture n 0) 0 || eqb (getD picture n 0) 255)) ((twoLevels n picture ≡ true) × ((getD picture n 0 ≡ 0) ⊎ (getD picture n 0 ≡ 255)))
+    each = both (up (twoLevels n picture)) (either (equal (getD picture n 0) 0) (equal (getD picture n 0) 255))
+
+    by : Dec (k < n) → (twoLevels n picture ≡ true → (j : ℕ) → j < n → (getD picture j 0 ≡ 0) ⊎ (getD picture j 0 ≡ 255)) → (getD picture k 0 ≡ 0) ⊎ (getD picture k 0 ≡ 255)
+    by (yes l) below = below (each .tells e .0) k l
+    by (no g) below = let last : k ≡ n = omega arith in rw last (each .tells e .1)
+
+-- what both calls serve: no palette and no colours multiplied by alpha
+module _ (l : RasterLayout) (s : Sound (recordFaults l)) (off : l .palette ≡ false) (kind : eqb (l .alpha) 1 ≡ false) where
+  pub render-written : (file picture : List ℕ) (k : ℕ) → k < l .«output_len» → Bytes picture → (eqb (l .slots) 8 && not (twoLevels (l .«output_len») picture)) ≡ false → converted l file (table (l .«scratch_len») (written l picture)) k ≡ getD picture k 0
+  render-written file picture k h bytes two = by (eqb (l .slots) 8) refl
+    where
+      by : (b : Bool) → eqb (l .slots) 8 ≡ b → converted l file (table (l .«scratch_len») (written l picture)) k ≡ getD picture k 0
+      by true e = let two-level : not (twoLevels (l .«output_len») picture) ≡ false = rw e at two in bilevel-render-written l s off (eqb-true (l .slots) 8 e) file picture k h (levels (l .«output_len») picture (not-false _ two-level) k h)
+      by false e = let plain : packed l ≡ false = rw (off, e) in plain-render-written l s off plain kind file picture k h bytes
+
+  pub write-rendered : (file raw : List ℕ) (i : ℕ) → i < l .«scratch_len» → Bytes raw → written l (table (l .«output_len») (converted l file raw)) i ≡ unpadded l raw i
+  write-rendered file raw i h bytes = by (eqb (l .slots) 8) refl
+    where
+      by : (b : Bool) → eqb (l .slots) 8 ≡ b → written l (table (l .«output_len») (converted l file raw)) i ≡ unpadded l raw i
+      by true e = bilevel-write-rendered l s off (eqb-true (l .slots) 8 e) file raw i h
+      by false e = let plain : packed l ≡ false = rw (off, e) in plain-write-rendered l s off plain kind file raw i h bytes

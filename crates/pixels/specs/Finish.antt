@@ -1,0 +1,39 @@
+-- What is done to bytes in place once they stand in the picture's order: white turned over, colours beside alpha made straight. Assumes nothing.
+use Prim.Native.Nat.{ℕ, _+_, _-_, _%_, _<_}
+use mathlib.Core.Path.{_≡_}
+use mathlib.Core.Bool.{Bool, not}
+use mathlib.Core.List.{List, [], _∷_}
+use lib.ListN.{length, getD}
+use lib.Dec.{eqb}
+use Rattle.answer.specs.Outcome.{Fault, unless, pick, unsupported, invalid, Promise, doneOutcome}
+use Rattle.answer.specs.Table.{table, filled, stores}
+use Rattle.answer.specs.declared.Done.{Done}
+use Rattle.pixels.specs.Render.{straightColour}
+
+-- every byte turned over; it never refuses
+abbrev pub Inverted : List ℕ → List ℕ → Type 0
+Inverted old new = new ≡ table (length old) (λ k. 255 - getD old k 0)
+
+-- byte j of pixels whose last byte is their alpha
+abbrev pub straightAt : List ℕ → ℕ → Bool → Bool → ℕ → ℕ
+straightAt old channels multiplied white j =
+    pick (eqb (j % channels) (channels - 1)) (getD old j 0) (straightColour multiplied white (getD old j 0) (getD old (j - j % channels + channels - 1) 0))
+
+abbrev pub straightFaults : List ℕ → ℕ → List Fault
+straightFaults old channels = unsupported (eqb channels 0) ∷ invalid (not (eqb (length old % channels) 0)) ∷ []
+
+abbrev pub Straightened : List ℕ → ℕ → Bool → Bool → Done → List ℕ → Type 0
+Straightened old channels multiplied white answer new =
+    Promise (unless (straightFaults old channels) tt) (table (length old) (straightAt old channels multiplied white)) old (doneOutcome answer) new
+
+-- what the private loops need and do
+pub record WholePixels (old : List ℕ) (channels : ℕ) : Type 0 where
+  pub some : 0 < channels
+  pub whole : length old % channels ≡ 0
+
+abbrev pub PixelStraightened : List ℕ → ℕ → ℕ → Bool → Bool → List ℕ → Type 0
+PixelStraightened old at last multiplied white new =
+    new ≡ stores old at last (λ c. straightColour multiplied white (getD old (at + c) 0) (getD old (at + last) 0))
+
+abbrev pub PixelsStraightened : List ℕ → ℕ → Bool → Bool → List ℕ → Type 0
+PixelsStraightened old channels multiplied white new = new ≡ filled (length old) (straightAt old channels multiplied white) old

@@ -1,0 +1,3 @@
+pub mod Render
+pub mod Planes
+pub mod Finish

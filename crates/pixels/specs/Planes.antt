@@ -1,0 +1,68 @@
+-- Plane writing, which document 01 adds: the planes whose rendering is a picture. And the order of `write_planes`' refusals. Assumes nothing.
+use Prim.Native.Nat.{ℕ, zero, suc, _+_, _-_, _*_, _/_, _%_}
+use mathlib.Core.Bool.{Bool, true, not, _&&_, _||_}
+use mathlib.Core.List.{List, [], _∷_, _++_}
+use lib.ListN.{length, getD}
+use lib.Dec.{eqb, ltb}
+use Rattle.answer.specs.Outcome.{Fault, unless, pick, unsupported, invalid, truncated, outputTooSmall, Promise, doneOutcome}
+use Rattle.answer.specs.Table.{table}
+use Rattle.answer.specs.declared.Done.{Done}
+use Rattle.words.specs.Digits.{digit, value}
+use Rattle.strips.specs.Promises.{apart}
+use Rattle.layout.specs.declared.RasterLayout.{RasterLayout}
+use Rattle.layout.specs.Layout.{recordFaults, turned}
+use Rattle.pixels.specs.Render.{flipped, lastChannel}
+
+-- the byte of the picture that place i of the planes takes, where a place holds one byte
+unfoldable pub placeIndex : RasterLayout → ℕ → ℕ
+placeIndex l i =
+    let stride = l .ch * l .bytes in
+    let within = i % l .«plane_len» in
+    pick (l .separate) (within / l .bytes * stride + turned (l .bytes) (l .le) (i / l .«plane_len» * l .bytes + within % l .bytes)) (i / stride * stride + turned (l .bytes) (l .le) (i % stride))
+
+-- white turns every byte over but alpha's
+abbrev pub flips : RasterLayout → ℕ → Bool
+flips l k = l .white && (eqb (l .alpha) 0 || not (lastChannel l k))
+
+-- the bit of a bilevel byte
+abbrev pub bilevelBit : Bool → ℕ → ℕ
+bilevelBit white v = pick (apart (eqb v 0) white) 0 1
+
+-- the column whose bit is bit p of byte i of bilevel planes
+abbrev pub column : RasterLayout → ℕ → ℕ → ℕ
+column l i p = 8 * (i % l .«encoded_width») + (7 - p)
+
+-- byte i of bilevel planes, with 0 past the row's end
+unfoldable pub bilevelPlane : RasterLayout → List ℕ → ℕ → ℕ
+bilevelPlane l picture i =
+    value 2 8 (λ p. pick (ltb (column l i p) (l .w)) (bilevelBit (l .white) (getD picture (i / l .«encoded_width» * l .w + column l i p) 0)) 0)
+
+unfoldable pub written : RasterLayout → List ℕ → ℕ → ℕ
+written l picture i =
+    pick (eqb (l .slots) 8) (bilevelPlane l picture i) (flipped (flips l (placeIndex l i)) (getD picture (placeIndex l i) 0))
+
+-- every byte below n is 0 or 255
+abbrev pub twoLevels : ℕ → List ℕ → Bool
+twoLevels zero picture = true
+twoLevels (suc n) picture = twoLevels n picture && (eqb (getD picture n 0) 0 || eqb (getD picture n 0) 255)
+
+-- document 01's order
+abbrev pub writeFaults : RasterLayout → List ℕ → List ℕ → List Fault
+writeFaults l picture old =
+    recordFaults l
+    ++ (unsupported (l .palette)
+    ∷ unsupported (eqb (l .bytes) 8)
+    ∷ unsupported (eqb (l .alpha) 1)
+    ∷ truncated (ltb (length picture) (l .«output_len»))
+    ∷ outputTooSmall (ltb (length old) (l .«scratch_len»))
+    ∷ invalid (eqb (l .slots) 8 && not (twoLevels (l .«output_len») picture))
+    ∷ [])
+
+abbrev pub Written : RasterLayout → List ℕ → List ℕ → Done → List ℕ → Type 0
+Written l picture old answer new =
+    Promise (unless (writeFaults l picture old) tt) (table (l .«scratch_len») (written l picture)) old (doneOutcome answer) new
+
+-- planes with the padding bits of bilevel rows 0: what writing gives back of what was rendered
+unfoldable pub unpadded : RasterLayout → List ℕ → ℕ → ℕ
+unpadded l raw i =
+    pick (eqb (l .slots) 8) (value 2 8 (λ p. pick (ltb (column l i p) (l .w)) (digit 2 p (getD raw i 0)) 0)) (getD raw i 0)

@@ -1,0 +1,74 @@
+-- Rendered bytes, as upstream's `converted` has them, with document 01's rules for what that only calls: where a byte comes from is the layout's
+-- `sourceIndex`. And the order of `render`'s refusals. Assumes nothing.
+use Prim.Native.Nat.{ℕ, _+_, _-_, _*_, _/_, _%_, _^_, min}
+use mathlib.Core.Bool.{Bool, not, _&&_}
+use mathlib.Core.List.{List, [], _∷_, _++_}
+use lib.ListN.{length, getD}
+use lib.Dec.{eqb, ltb}
+use Rattle.answer.specs.Outcome.{Fault, unless, pick, unsupported, truncated, outputTooSmall, Promise, doneOutcome}
+use Rattle.answer.specs.Table.{table}
+use Rattle.answer.specs.declared.Done.{Done}
+use Rattle.words.specs.Word.{wordAt}
+use Rattle.strips.specs.Promises.{apart}
+use Rattle.layout.specs.declared.RasterLayout.{RasterLayout}
+use Rattle.layout.specs.Layout.{recordFaults, sourceIndex}
+
+-- white is 0: the byte turned over
+abbrev pub flipped : Bool → ℕ → ℕ
+flipped white v = pick white (255 - v) v
+
+-- alpha kind 1: the colour u of a pixel that was multiplied by alpha a
+unfoldable pub straightened : ℕ → ℕ → ℕ
+straightened u a = pick (eqb a 0) 0 (min 255 (255 * u / a))
+
+-- a colour byte v beside the alpha byte a
+abbrev pub straightColour : Bool → Bool → ℕ → ℕ → ℕ
+straightColour multiplied white v a = pick multiplied (straightened (flipped white v) a) (flipped white v)
+
+-- the byte of the planes that byte k of the picture comes from
+abbrev pub source : RasterLayout → List ℕ → ℕ → ℕ
+source l raw k = getD raw (sourceIndex l k) 0
+
+-- by how many bits the index at a slot of a byte is shifted: high bit first, high nibble first
+abbrev pub slotShift : ℕ → ℕ → ℕ
+slotShift slots slot = pick (eqb slots 8) (7 - slot) (pick (eqb slots 2) ((1 - slot) * 4) 0)
+
+-- the index that byte v holds for column x, and the more significant byte of a colour's entry: reds, then greens, then blues
+abbrev pub paletteIndex : RasterLayout → ℕ → ℕ → ℕ
+paletteIndex l x v = v / 2 ^ slotShift (l .slots) (x % l .slots) % l .colors
+
+abbrev pub mapByte : RasterLayout → List ℕ → ℕ → ℕ → ℕ
+mapByte l file c index = wordAt file (l .map + 2 * (c * l .colors + index)) 2 (l .le) / 256
+
+-- the byte for column x of a bilevel picture, whose bits stand in v
+abbrev pub bilevelByte : Bool → ℕ → ℕ → ℕ
+bilevelByte white x v = pick (apart (eqb (v / 2 ^ (7 - x % 8) % 2) 0) white) 0 255
+
+-- byte k is a pixel's alpha
+abbrev pub lastChannel : RasterLayout → ℕ → Bool
+lastChannel l k = eqb (k % l .ch) (l .ch - 1)
+
+-- a byte that is neither an index nor bits
+unfoldable pub plainByte : RasterLayout → List ℕ → ℕ → ℕ
+plainByte l raw k =
+    pick (not (eqb (l .alpha) 0) && not (lastChannel l k)) (straightColour (eqb (l .alpha) 1) (l .white) (source l raw k) (source l raw (k - k % l .ch + l .ch - 1)))
+    (flipped (l .white && eqb (l .alpha) 0) (source l raw k))
+
+unfoldable pub converted : RasterLayout → List ℕ → List ℕ → ℕ → ℕ
+converted l file raw k =
+    pick (l .palette) (mapByte l file (k % 3) (paletteIndex l (k / 3 % l .w) (source l raw k)))
+    (pick (eqb (l .slots) 8) (bilevelByte (l .white) (k % l .w) (source l raw k)) (plainByte l raw k))
+
+-- document 01's order
+abbrev pub renderFaults : RasterLayout → List ℕ → List ℕ → List ℕ → List Fault
+renderFaults l file raw old =
+    recordFaults l
+    ++ (unsupported (eqb (l .bytes) 8)
+    ∷ truncated (l .palette && ltb (length file) (l .map + 6 * l .colors))
+    ∷ truncated (ltb (length raw) (l .«scratch_len»))
+    ∷ outputTooSmall (ltb (length old) (l .«output_len»))
+    ∷ [])
+
+abbrev pub Rendered : RasterLayout → List ℕ → List ℕ → List ℕ → Done → List ℕ → Type 0
+Rendered l file raw old answer new =
+    Promise (unless (renderFaults l file raw old) tt) (table (l .«output_len») (converted l file raw)) old (doneOutcome answer) new

@@ -1,0 +1,6 @@
+pub mod Gathering
+pub mod Rowwise
+pub mod Finishing
+pub mod PackedRows
+pub mod Picture
+pub mod Determined

@@ -1,0 +1,94 @@
+-- The loop over a picture's rows: its invariant, how a row keeps it, and what it comes to. Assumes nothing.
+use Prim.Native.Nat.{ℕ, _+_, _-_, _*_, _≤_, _<_}
+use mathlib.Core.Path.{_≡_, refl, sym, ap, _∙_}
+use mathlib.Core.List.{List, _++_}
+use mathlib.Core.Bool.{Bool, true, false, _&&_}
+use borrow.Author.Tests.{ltb-false}
+use lib.Dec.{eqb, ltb}
+use Rattle.answer.specs.Outcome.{pick, Sound}
+use Rattle.layout.proofs.Says.{clash}
+use Rattle.pixels.proofs.Undo.{passed}
+use native.Mathlib.Nat.{add-mul, one-mul, zero-mul, mul-comm, mul-assoc, mul-le-mul-right, mul-pos}
+use native.Mathlib.Omega.{arith}
+use lib.ListN.{length, take, drop}
+use Rattle.answer.specs.Table.{table, filled}
+use Rattle.answer.proofs.Filling.{table-same, part, length-part, part-filled, length-filled}
+use Rattle.layout.specs.declared.RasterLayout.{RasterLayout}
+use Rattle.layout.specs.Layout.{given, byteLimit, outputLength, packed, colours, recordFaults}
+use Rattle.layout.proofs.Whole.{record-accepted, record-agreed}
+use Rattle.layout.proofs.Placed.{output-is, stride-some}
+use Rattle.pixels.specs.Render.{converted}
+use Rattle.rendering.specs.Rows.{rowBytes, PlainRow, PlainRendered, Served, RowOf, RowRendered, RowsRendered}
+
+pub record Rows (l : RasterLayout) (file raw old : List ℕ) (y at : ℕ) (out : List ℕ) : Type 0 where
+  pub inside : y ≤ l .h
+  pub at-is : at ≡ y * rowBytes l
+  pub same : length out ≡ length old
+  pub so-far : out ≡ filled at (converted l file raw) old
+
+pub rows-none : (l : RasterLayout) (file raw old : List ℕ) → Rows l file raw old 0 0 old
+rows-none l file raw old = record { inside = omega arith; at-is = sym (zero-mul (rowBytes l)); same = refl; so-far = refl }
+
+module _ {l : RasterLayout} {file raw old : List ℕ} (served : Served l file raw old) where
+  pub output-rows : l .«output_len» ≡ l .h * rowBytes l
+  output-rows = output-is l (served .sound) ∙ ap (λ (n : ℕ). n * (l .ch * l .bytes)) (mul-comm (l .w) (l .h)) ∙ mul-assoc (l .h) (l .w) (l .ch * l .bytes)
+
+  -- no product wraps
+  pub row-small : (l .ch * l .bytes ≤ rowBytes l) × (rowBytes l ≤ byteLimit)
+  row-small =
+      let shown = record-accepted l (served .sound) in
+      let pixel : 1 * (l .ch * l .bytes) ≤ l .w * (l .ch * l .bytes) = mul-le-mul-right (l .ch * l .bytes) (shown .wide) in
+      let one : 1 * rowBytes l ≤ l .h * rowBytes l = mul-le-mul-right (rowBytes l) (shown .high) in
+      (omega (arith, one-mul (l .ch * l .bytes)), omega (arith, one-mul (rowBytes l), output-rows, record-agreed l (served .sound) .0 .1, shown .size))
+
+  module _ {y at : ℕ} {out : List ℕ} (is : Rows l file raw old y at out) where
+    module _ (more : y < l .h) where
+      pub row-room : at + rowBytes l ≤ l .«output_len»
+      row-room =
+          let all : (y + 1) * rowBytes l ≤ l .h * rowBytes l = mul-le-mul-right (rowBytes l) (omega arith) in
+          omega (arith, is .at-is, output-rows, add-mul y 1 (rowBytes l), one-mul (rowBytes l))
+
+      wide : length (part at (at + rowBytes l) out) ≡ at + rowBytes l - at
+      wide = length-part at (at + rowBytes l) out (omega arith) (omega (arith, row-room, is .same, served .room))
+
+      pub row-of : RowOf l file raw y (part at (at + rowBytes l) out)
+      row-of = record { sound = served .sound; bytes = served .bytes; map = served .map; planes = served .planes; row = more; room = wide ∙ omega arith }
+
+      pub row-next : (new : List ℕ) → RowRendered l file raw y (part at (at + rowBytes l) out) new → Rows l file raw old (y + 1) (at + rowBytes l) (take at out ++ (new ++ drop (at + rowBytes l - at) (drop at out)))
+      row-next new p =
+          let f = converted l file raw in
+          let all : new ≡ table (at + rowBytes l - at) (λ k. f (at + k)) = p ∙ ap (λ (n : ℕ). table n (λ j. f (y * rowBytes l + j))) wide ∙ ap (λ (n : ℕ). table (at + rowBytes l - at) (λ j. f (n + j))) (sym (is .at-is)) in
+          let now = part-filled f at (at + rowBytes l) old out new (omega arith) (is .so-far) all in
+          record {
+            inside = omega arith;
+            at-is = omega (arith, is .at-is, add-mul y 1 (rowBytes l), one-mul (rowBytes l));
+            same = ap length now ∙ length-filled (at + rowBytes l) f old (omega (arith, row-room, served .room));
+            so-far = now;
+          }
+
+    pub rows-ended : l .h ≤ y → RowsRendered l file raw old out
+    rows-ended end =
+        let last : y ≡ l .h = omega (arith, is .inside) in
+        is .so-far ∙ ap (λ (n : ℕ). filled n (converted l file raw) old) (is .at-is ∙ ap (λ (n : ℕ). n * rowBytes l) last ∙ sym output-rows)
+
+-- a row whose bytes are bytes of the planes
+pub plain-row-of : {l : RasterLayout} {file raw : List ℕ} {y : ℕ} {out : List ℕ} → RowOf l file raw y out → packed l ≡ false → PlainRow l raw y out
+plain-row-of row e = record { sound = row .sound; bytes = row .bytes; planes = row .planes; plain = e; row = row .row; room = row .room }
+
+pub plain-row-rendered : (l : RasterLayout) (file raw : List ℕ) (y : ℕ) (out new : List ℕ) → l .palette ≡ false → eqb (l .slots) 8 ≡ false → PlainRendered l raw y out new → RowRendered l file raw y out new
+unfolding converted
+plain-row-rendered l file raw y out new off several p = p ∙ table-same (length out) _ _ (λ j h. sym (passed _ _ off ∙ passed _ _ several))
+
+-- a palette has few colours, and its map is in the file
+pub colours-few : (l : RasterLayout) → Sound (recordFaults l) → l .colors ≤ 256
+unfolding colours
+colours-few l s = rw (record-agreed l s .1) (by (eqb (l .slots) 8) (eqb (l .slots) 2))
+  where
+    by : (a b : Bool) → pick a 2 (pick b 16 256) ≤ 256
+    by true b = omega arith
+    by false true = omega arith
+    by false false = omega arith
+
+pub map-inside : (palette : Bool) (n end : ℕ) → (palette && ltb n end) ≡ false → palette ≡ true → end ≤ n
+map-inside true n end e on = ltb-false n end e
+map-inside false n end e on = clash on refl

@@ -1,0 +1,115 @@
+// The bytes of a row in the picture's order, where each is a byte of the planes.
+use layout::RasterLayout;
+ghost use mathlib.Core.Path.{_≡_};
+ghost use Rattle.answer.specs.Outcome.{pick};
+ghost use Rattle.rendering.specs.Rows.{OneOrTwo, PlainRow, Gathered, PixelFits, PixelGathered, PlanesFit, PlanesInto};
+
+// A pixel of one-byte channels, each from its plane.
+fn pixel1(
+    raw: &[u8],
+    plane_len: usize,
+    place: usize,
+    channels: usize,
+    le: bool,
+    at: usize,
+    out: &mut [u8],
+)
+    requires { ⌜ PixelFits (now raw) «plane_len» place channels 1 at (now out) ⌝ }
+    ensures { λ r. ⌜ PixelGathered (now (raw .entry)) «plane_len» place channels 1 le at (now (out .entry)) (now (out .exit)) ⌝ }
+{
+    let mut from = place;
+    let mut c: usize = 0;
+    while c < channels {
+        out[at + c] = raw[from];
+        from += plane_len;
+        c += 1;
+    }
+}
+
+// Which byte of a stored word is the more significant one.
+fn high(le: bool) -> usize
+    ensures { λ r. ⌜ r ≡ pick le 1 0 ⌝ }
+{
+    if le { 1 } else { 0 }
+}
+
+// A pixel of two-byte channels, the more significant byte first.
+fn pixel2(
+    raw: &[u8],
+    plane_len: usize,
+    place: usize,
+    channels: usize,
+    le: bool,
+    at: usize,
+    out: &mut [u8],
+)
+    requires { ⌜ PixelFits (now raw) «plane_len» place channels 2 at (now out) ⌝ }
+    ensures { λ r. ⌜ PixelGathered (now (raw .entry)) «plane_len» place channels 2 le at (now (out .entry)) (now (out .exit)) ⌝ }
+{
+    let high = high(le);
+    let mut from = place;
+    let mut to = at;
+    let mut c: usize = 0;
+    while c < channels {
+        out[to] = raw[from + high];
+        out[to + 1] = raw[from + (1 - high)];
+        from += plane_len;
+        to += 2;
+        c += 1;
+    }
+}
+
+fn pixel(
+    raw: &[u8],
+    plane_len: usize,
+    place: usize,
+    channels: usize,
+    bytes: usize,
+    le: bool,
+    at: usize,
+    out: &mut [u8],
+)
+    requires { ⌜ PixelFits (now raw) «plane_len» place channels bytes at (now out) × OneOrTwo bytes ⌝ }
+    ensures { λ r. ⌜ PixelGathered (now (raw .entry)) «plane_len» place channels bytes le at (now (out .entry)) (now (out .exit)) ⌝ }
+{
+    if bytes == 2 {
+        pixel2(raw, plane_len, place, channels, le, at, out);
+    } else {
+        pixel1(raw, plane_len, place, channels, le, at, out);
+    }
+}
+
+// A row of pixels whose channels stand in planes of their own.
+fn planes(
+    raw: &[u8],
+    plane_len: usize,
+    from: usize,
+    channels: usize,
+    bytes: usize,
+    le: bool,
+    out: &mut [u8],
+)
+    requires { ⌜ PlanesFit (now raw) «plane_len» from channels bytes (now out) ⌝ }
+    ensures { λ r. ⌜ PlanesInto (now (raw .entry)) «plane_len» from channels bytes le (now (out .entry)) (now (out .exit)) ⌝ }
+{
+    let mut place = from;
+    let mut at: usize = 0;
+    while at < out.len() {
+        pixel(raw, plane_len, place, channels, bytes, le, at, out);
+        place += bytes;
+        at += channels * bytes;
+    }
+}
+
+pub(crate) fn gather(l: RasterLayout, raw: &[u8], y: usize, out: &mut [u8])
+    requires { ⌜ PlainRow l (now raw) y (now out) ⌝ }
+    ensures { λ r. ⌜ Gathered l (now (raw .entry)) y (now (out .entry)) (now (out .exit)) ⌝ }
+{
+    let from = y * (l.encoded_width * l.plane_channels);
+    if l.separate {
+        planes(raw, l.plane_len, from, l.ch, l.bytes, l.le, out);
+    } else {
+        let end = from + out.len();
+        strips::reorder(&raw[from..end], l.bytes, l.le, false, out);
+    }
+}

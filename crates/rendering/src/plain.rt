@@ -1,0 +1,28 @@
+// A row whose bytes are bytes of the planes: gathered, then finished in place.
+use crate::gather::gather;
+use layout::RasterLayout;
+ghost use Rattle.rendering.specs.Rows.{PlainRow, WholeRow, Finished, PlainRendered};
+
+// White turned over, colours made straight beside alpha.
+fn finish(l: RasterLayout, out: &mut [u8])
+    requires { ⌜ WholeRow l (now out) ⌝ }
+    ensures { λ r. ⌜ Finished l (now (out .entry)) (now (out .exit)) ⌝ }
+{
+    if l.alpha == 1 {
+        pixels::straighten_row(out, l.ch, true, l.white);
+    } else if l.white {
+        if l.alpha == 0 {
+            pixels::invert(out);
+        } else {
+            pixels::straighten_row(out, l.ch, false, true);
+        }
+    }
+}
+
+pub(crate) fn plain_row(l: RasterLayout, raw: &[u8], y: usize, out: &mut [u8])
+    requires { ⌜ PlainRow l (now raw) y (now out) ⌝ }
+    ensures { λ r. ⌜ PlainRendered l (now (raw .entry)) y (now (out .entry)) (now (out .exit)) ⌝ }
+{
+    gather(l, raw, y, out);
+    finish(l, out);
+}

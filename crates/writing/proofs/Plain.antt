@@ -1,0 +1,87 @@
+-- A row of bytes or words: its bytes in the planes' order, then turned over by white but for alpha. Assumes nothing.
+use Prim.Native.Nat.{ℕ, _-_, _%_, _<_}
+use mathlib.Core.Path.{_≡_, refl, sym, ap, _∙_}
+use mathlib.Core.Bool.{Bool, true, false, not}
+use mathlib.Core.List.{List}
+use mathlib.Core.Logic.{inl, inr}
+use native.Mathlib.Omega.{arith}
+use borrow.Author.Tests.{eq-eqb, ne-eqb, le-ltb}
+use lib.ListN.{length, getD}
+use lib.Dec.{eqb}
+use Rattle.answer.specs.Outcome.{pick, Sound, next, none}
+use Rattle.answer.specs.Table.{table}
+use Rattle.answer.specs.declared.Done.{Done}
+use Rattle.answer.proofs.Promised.{finished}
+use Rattle.answer.proofs.Filling.{table-at, table-same, table-self, length-table, filled-all}
+use Rattle.words.specs.Word.{Bytes}
+use Rattle.words.specs.Promises.{served}
+use Rattle.strips.specs.Sample.{wordOf, storedAt}
+use Rattle.strips.specs.Promises.{reorderFaults, Reordered}
+use Rattle.strips.proofs.Orders.{same-order, other-order}
+use Rattle.layout.specs.declared.RasterLayout.{RasterLayout}
+use Rattle.layout.specs.Layout.{turned}
+use Rattle.pixels.specs.Render.{flipped}
+use Rattle.pixels.specs.Finish.{Inverted, straightAt, straightFaults, Straightened, WholePixels}
+use Rattle.writing.specs.Parts.{turnsOver, OneOrTwo, TurnedOver, PlainFits, PlainRow}
+
+-- white, with no alpha, beside alpha, and none
+module _ (l : RasterLayout) (old : List ℕ) where
+  pub over-none : l .white ≡ false → TurnedOver l old old
+  over-none e = rw e (sym (table-self old))
+
+  pub over-all : l .white ≡ true → l .alpha ≡ 0 → (new : List ℕ) → Inverted old new → TurnedOver l old new
+  over-all e z new p = rw (e, eq-eqb (l .alpha) 0 z) p
+
+  pub over-colours : l .white ≡ true → (l .alpha ≡ 0 → ⊥) → WholePixels old (l .ch) → (answer : Done) (new : List ℕ) → Straightened old (l .ch) false true answer new → TurnedOver l old new
+  over-colours e z whole answer new p =
+      finished (straightFaults old (l .ch)) tt (length old) (straightAt old (l .ch) false true) old new sound p
+      ∙ filled-all (length old) (straightAt old (l .ch) false true) old (omega arith)
+      ∙ table-same (length old) _ _ (λ j h. rw (e, ne-eqb (l .alpha) 0 z) (by j (eqb (j % l .ch) (l .ch - 1))))
+    where
+      sound : Sound (straightFaults old (l .ch))
+      sound = next (ne-eqb (l .ch) 0 (λ n. omega (arith, whole .some))) (next (ap not (eq-eqb _ _ (whole .whole))) none)
+
+      by : (j : ℕ) (last : Bool) → pick last (getD old j 0) (255 - getD old j 0) ≡ flipped (not last) (getD old j 0)
+      by j true = refl
+      by j false = refl
+
+-- a picture's words have the more significant byte first
+pub stored-turned : (row : List ℕ) → Bytes row → (bytes : ℕ) → OneOrTwo bytes → (le : Bool) (k : ℕ) → storedAt bytes le (wordOf bytes false row) k ≡ getD row (turned bytes le k) 0
+unfolding turned
+stored-turned row b bytes (inl e) true k = rw e (other-order row b 1 (omega arith) k false true refl ∙ ap (λ (i : ℕ). getD row i 0) (omega arith))
+stored-turned row b bytes (inl e) false k = rw e (same-order row b 1 (omega arith) k false false refl)
+stored-turned row b bytes (inr e) true k = rw e (other-order row b 2 (omega arith) k false true refl ∙ ap (λ (i : ℕ). getD row i 0) (omega arith))
+stored-turned row b bytes (inr e) false k = rw e (same-order row b 2 (omega arith) k false false refl)
+
+-- such a row
+module _ {l : RasterLayout} {row old : List ℕ} (fits : PlainFits l row old) (b : Bytes row) where
+  widths : (bytes : ℕ) → OneOrTwo bytes → not (served bytes) ≡ false
+  unfolding served
+  widths bytes (inl e) = rw e
+  widths bytes (inr e) = rw e
+
+  faultless : Sound (reorderFaults row (l .bytes) old)
+  faultless =
+      next (widths (l .bytes) (fits .width)) (next (ap not (eq-eqb _ _ (fits .words))) (next (le-ltb (length old) (length row) (omega (arith, fits .room))) none))
+
+  module _ (answer : Done) (mid : List ℕ) (p : Reordered row (l .bytes) false (l .le) old answer mid) where
+    ordered : mid ≡ table (length row) (storedAt (l .bytes) (l .le) (wordOf (l .bytes) false row))
+    ordered =
+        finished (reorderFaults row (l .bytes) old) tt (length row) _ old mid faultless p
+        ∙ filled-all (length row) _ old (omega (arith, fits .room))
+
+    ordered-length : length mid ≡ length row
+    ordered-length = ap length ordered ∙ length-table (length row) _
+
+    pub ordered-whole : WholePixels mid (l .ch)
+    ordered-whole = record { some = fits .some; whole = ap (λ (n : ℕ). n % l .ch) ordered-length ∙ fits .pixels }
+
+    ordered-at : (k : ℕ) → k < length row → getD mid k 0 ≡ getD row (turned (l .bytes) (l .le) k) 0
+    ordered-at k h =
+        ap (λ (m : List ℕ). getD m k 0) ordered ∙ table-at (length row) _ k h ∙ stored-turned row b (l .bytes) (fits .width) (l .le) k
+
+    pub plain-done : (new : List ℕ) → TurnedOver l mid new → PlainRow l row old new
+    plain-done new q =
+        q
+        ∙ ap (λ (n : ℕ). table n (λ j. flipped (turnsOver l (j % l .ch)) (getD mid j 0))) (ordered-length ∙ sym (fits .room))
+        ∙ table-same (length old) _ _ (λ j h. ap (flipped (turnsOver l (j % l .ch))) (ordered-at j (omega (arith, fits .room))))

@@ -1,0 +1,166 @@
+-- Planes one after another: what stands in a plane, and the loop over the planes. Assumes nothing.
+use Prim.Native.Nat.{ℕ, _+_, _-_, _*_, _/_, _%_, _≤_, _<_}
+use mathlib.Core.Path.{_≡_, refl, sym, ap, _∙_}
+use mathlib.Core.Bool.{Bool, true, false, not, _&&_, _||_}
+use mathlib.Core.List.{List, _++_}
+use mathlib.Core.Logic.{_⊎_, inl, inr}
+use native.Mathlib.Nat.{add-zero, zero-mul, add-mul, one-mul, mul-one, div-one, mod-lt, div-add-mod', div-lt-iff-lt-mul, mul-mod-left, mul-le-mul-right}
+use native.Mathlib.Omega.{arith}
+use borrow.Author.Tests.{eqb-false}
+use lib.ListN.{length, getD, take, drop}
+use lib.Dec.{eqb}
+use Rattle.answer.specs.Outcome.{Sound}
+use Rattle.answer.specs.Table.{table, filled}
+use Rattle.answer.proofs.Filling.{table-at, table-same, length-table, part, length-part, part-filled, length-filled}
+use Rattle.layout.specs.declared.RasterLayout.{RasterLayout}
+use Rattle.layout.specs.Layout.{given, byteLimit, recordFaults, packed, turned}
+use Rattle.layout.proofs.Says.{clash, refuted, up, down, both}
+use Rattle.layout.proofs.Accepted.{up-to-eight, alpha-bytes, mapped-together}
+use Rattle.layout.proofs.Whole.{record-accepted}
+use Rattle.layout.proofs.Sizes.{bytes-few}
+use Rattle.layout.proofs.Placed.{output-is, scratch-limited}
+use Rattle.pixels.specs.Render.{flipped}
+use Rattle.pixels.specs.Finish.{Inverted}
+use Rattle.pixels.specs.Planes.{placeIndex, flips, written}
+use Rattle.pixels.proofs.Places.{group-of, item-of, plane-is, apart-place}
+use Rattle.pixels.proofs.Undo.{passed}
+use Rattle.writing.specs.Parts.{planar, turnsOver, OneOrTwo, channelAt, ChannelFits, ChannelInto, PlaneOf, PlaneWritten, Apart, WrittenInto}
+
+-- a width that a record has, and that is not 8
+pub one-or-two : (l : RasterLayout) → Sound (recordFaults l) → eqb (l .bytes) 8 ≡ false → OneOrTwo (l .bytes)
+one-or-two l s narrow = by (record-accepted l s .bytes)
+  where
+    by : ((l .bytes ≡ 1) ⊎ (l .bytes ≡ 2)) ⊎ (l .bytes ≡ 8) → OneOrTwo (l .bytes)
+    by (inl w) = w
+    by (inr e) = absurd (eqb-false (l .bytes) 8 narrow e)
+
+-- words stand apart from words
+pub turned-in : (bytes : ℕ) → OneOrTwo bytes → (le : Bool) (c b : ℕ) → turned bytes le (c * bytes + b) ≡ c * bytes + turned bytes le b
+unfolding turned
+turned-in bytes (inl e) le c b = rw e
+turned-in bytes (inr e) true c b = rw e (omega arith)
+turned-in bytes (inr e) false c b = rw e
+
+module _ (l : RasterLayout) (s : Sound (recordFaults l)) (narrow : eqb (l .bytes) 8 ≡ false) (apart : planar l ≡ true) where
+  separated : (l .separate ≡ true) × (eqb (l .slots) 8 ≡ false)
+  separated = both (up (l .separate)) (down (eqb (l .slots) 8)) .tells apart
+
+  plain : packed l ≡ false
+  plain =
+      let bare : l .palette ≡ false = sym (refuted (up (l .palette)) (λ p. clash (separated .0) (mapped-together (record-accepted l s) p))) in
+      rw (bare, separated .1)
+
+  bytes-some : 0 < l .bytes
+  bytes-some = up-to-eight (record-accepted l s .bytes) .0
+
+  plane : l .«plane_len» ≡ l .w * l .h * l .bytes
+  plane = plane-is l s plain (separated .0) .0
+
+  -- a plane has its channel of each pixel
+  pub plane-pixels : (l .«plane_len» % l .bytes ≡ 0) × (l .«plane_len» / l .bytes ≡ l .w * l .h)
+  plane-pixels =
+      (ap (λ (n : ℕ). n % l .bytes) plane ∙ mul-mod-left (l .w * l .h) (l .bytes), ap (λ (n : ℕ). n / l .bytes) plane ∙ rw add-zero at (group-of (l .w * l .h) (l .bytes) {b = 0} bytes-some))
+
+  module _ (picture : List ℕ) (c : ℕ) (channel : c < l .ch) where
+    place-of : (j : ℕ) → j < l .«plane_len» → placeIndex l (c * l .«plane_len» + j) ≡ c * l .bytes + j / l .bytes * (l .ch * l .bytes) + turned (l .bytes) (l .le) (j % l .bytes)
+    place-of j h =
+        let p = j / l .bytes in
+        let b = j % l .bytes in
+        let byte : b < l .bytes = mod-lt j bytes-some in
+        let pixel : p < l .w * l .h = div-lt-iff-lt-mul bytes-some .1 (omega (arith, plane)) in
+        ap (λ (n : ℕ). placeIndex l (c * l .«plane_len» + n)) (sym (div-add-mod' j (l .bytes)))
+        ∙ apart-place l s plain (separated .0) p c b pixel channel byte
+        ∙ ap (λ (n : ℕ). p * (l .ch * l .bytes) + n) (turned-in (l .bytes) (one-or-two l s narrow) (l .le) c b)
+        ∙ omega arith
+
+    -- white turns over all of a plane or none of it
+    over-plane : (j : ℕ) → j < l .«plane_len» → flips l (placeIndex l (c * l .«plane_len» + j)) ≡ turnsOver l c
+    unfolding turned
+    over-plane j h = by (eqb (l .alpha) 0) refl
+      where
+        by : (b : Bool) → eqb (l .alpha) 0 ≡ b → (l .white && (b || not (eqb (placeIndex l (c * l .«plane_len» + j) % l .ch) (l .ch - 1)))) ≡ (l .white && (b || not (eqb c (l .ch - 1))))
+        by true e = refl
+        by false e =
+            let one : l .bytes ≡ 1 = alpha-bytes (record-accepted l s) (eqb-false (l .alpha) 0 e) in
+            let here : placeIndex l (c * l .«plane_len» + j) ≡ j * l .ch + c = place-of j h ∙ rw one (rw (mul-one (l .ch), div-one j) (omega arith)) in
+            rw (here, item-of j (l .ch) channel)
+
+    pub plane-byte : (j : ℕ) → j < l .«plane_len» → written l picture (c * l .«plane_len» + j) ≡ flipped (turnsOver l c) (channelAt picture (c * l .bytes) (l .ch * l .bytes) (l .bytes) (l .le) j)
+    unfolding written
+    plane-byte j h =
+        passed _ _ (separated .1)
+        ∙ ap (λ (b : Bool). flipped b (getD picture (placeIndex l (c * l .«plane_len» + j)) 0)) (over-plane j h)
+        ∙ ap (λ (k : ℕ). flipped (turnsOver l c) (getD picture k 0)) (place-of j h)
+
+    module _ (all : l .«output_len» ≤ length picture) (old : List ℕ) (room : length old ≡ l .«plane_len») where
+      pub channel-fits : ChannelFits picture (c * l .bytes) (l .ch * l .bytes) (l .bytes) old
+      channel-fits =
+          let rows : (c + 1) * l .bytes ≤ l .ch * l .bytes = mul-le-mul-right (l .bytes) (omega arith) in
+          record {
+            inside = omega (arith, add-mul c 1 (l .bytes), one-mul (l .bytes));
+            words = rw room (plane-pixels .0);
+            pixels = rw (room, plane-pixels .1) (omega (arith, output-is l s));
+            limited = bytes-few (given l) (record-accepted l s);
+          }
+
+      module _ (mid : List ℕ) (p : ChannelInto picture (c * l .bytes) (l .ch * l .bytes) (l .bytes) (l .le) old mid) where
+        pub plane-kept : turnsOver l c ≡ false → PlaneWritten l picture c old mid
+        plane-kept e = p ∙ table-same (length old) _ _ (λ j h. sym (plane-byte j (omega arith) ∙ rw e))
+
+        pub plane-over : turnsOver l c ≡ true → (new : List ℕ) → Inverted mid new → PlaneWritten l picture c old new
+        plane-over e new q =
+            let f = channelAt picture (c * l .bytes) (l .ch * l .bytes) (l .bytes) (l .le) in
+            let long : length mid ≡ length old = ap length p ∙ length-table (length old) f in
+            q
+            ∙ ap (λ (n : ℕ). table n (λ k. 255 - getD mid k 0)) long
+            ∙ table-same (length old) _ _ (λ j h. ap (λ (m : List ℕ). 255 - getD m j 0) p ∙ ap (λ (v : ℕ). 255 - v) (table-at (length old) f j h) ∙ sym (plane-byte j (omega arith) ∙ rw e))
+
+-- the loop over the planes
+pub record Planewise (l : RasterLayout) (picture old : List ℕ) (start c : ℕ) (out : List ℕ) : Type 0 where
+  pub start-is : start ≡ c * l .«plane_len»
+  pub inside : c ≤ l .ch
+  pub same : length out ≡ length old
+  pub so-far : out ≡ filled start (written l picture) old
+
+pub planes-none : (l : RasterLayout) (picture old : List ℕ) → Planewise l picture old 0 0 old
+planes-none l picture old = record { start-is = sym (zero-mul (l .«plane_len»)); inside = omega arith; same = refl; so-far = refl }
+
+module _ {l : RasterLayout} {picture old : List ℕ} {start c : ℕ} {out : List ℕ} (fits : Apart l picture old) (is : Planewise l picture old start c out) where
+  scratch : l .«scratch_len» ≡ l .ch * l .«plane_len»
+  scratch = plane-is l (fits .served .sound) (plain l (fits .served .sound) (fits .served .narrow) (fits .apart)) (separated l (fits .served .sound) (fits .served .narrow) (fits .apart) .0) .1
+
+  module _ (more : c < l .ch) where
+    pub plane-room : (start + l .«plane_len» ≤ length old) × (start + l .«plane_len» ≤ byteLimit)
+    plane-room =
+        let upto : (c + 1) * l .«plane_len» ≤ l .ch * l .«plane_len» = mul-le-mul-right (l .«plane_len») (omega arith) in
+        let end : start + l .«plane_len» ≤ l .«scratch_len» = omega (arith, is .start-is, add-mul c 1 (l .«plane_len»), one-mul (l .«plane_len»), scratch) in
+        (omega (arith, fits .served .room), omega (arith, scratch-limited l (fits .served .sound)))
+
+    pub plane-fits : (k : ℕ) → k < l .ch → PlaneOf l picture k (part start (start + l .«plane_len») out)
+    plane-fits k channel =
+        record {
+          sound = fits .served .sound;
+          narrow = fits .served .narrow;
+          all = fits .served .all;
+          apart = fits .apart;
+          channel = channel;
+          room = length-part start (start + l .«plane_len») out (omega arith) (omega (arith, plane-room .0, is .same)) ∙ omega arith;
+        }
+
+    pub plane-next : (new : List ℕ) → PlaneWritten l picture c (part start (start + l .«plane_len») out) new → Planewise l picture old (start + l .«plane_len») (c + 1) (take start out ++ (new ++ drop (start + l .«plane_len» - start) (drop start out)))
+    plane-next new p =
+        let long : length (part start (start + l .«plane_len») out) ≡ start + l .«plane_len» - start = plane-fits c more .room ∙ omega arith in
+        let all : new ≡ table (start + l .«plane_len» - start) (λ k. written l picture (start + k)) = p ∙ rw (long, is .start-is) in
+        let now = part-filled (written l picture) start (start + l .«plane_len») old out new (omega arith) (is .so-far) all in
+        record {
+          start-is = omega (arith, is .start-is, add-mul c 1 (l .«plane_len»), one-mul (l .«plane_len»));
+          inside = omega arith;
+          same = ap length now ∙ length-filled (start + l .«plane_len») (written l picture) old (plane-room .0);
+          so-far = now;
+        }
+
+  pub planes-ended : l .ch ≤ c → WrittenInto l picture old out
+  planes-ended end =
+      let all : c ≡ l .ch = omega (arith, is .inside) in
+      let whole : start ≡ l .«scratch_len» = is .start-is ∙ ap (λ (n : ℕ). n * l .«plane_len») all ∙ sym scratch in
+      rw whole at (is .so-far)

@@ -1,0 +1,112 @@
+-- What the private functions need and do: the refusals past the record's, rows of one plane, and planes one after another. Assumes nothing.
+use Prim.Native.Nat.{ℕ, _+_, _-_, _*_, _/_, _%_, _≤_, _<_}
+use mathlib.Core.Path.{_≡_}
+use mathlib.Core.Bool.{Bool, true, false, not, _&&_, _||_}
+use mathlib.Core.List.{List, [], _∷_, _++_}
+use mathlib.Core.Logic.{_⊎_}
+use lib.ListN.{length, getD}
+use lib.Dec.{eqb, ltb}
+use Rattle.answer.specs.Outcome.{Fault, Sound, unless, pick, unsupported, invalid, truncated, outputTooSmall, doneOutcome}
+use Rattle.answer.specs.Table.{table, filled}
+use Rattle.answer.specs.declared.Done.{Done}
+use Rattle.layout.specs.declared.RasterLayout.{RasterLayout}
+use Rattle.layout.specs.Layout.{recordFaults, turned}
+use Rattle.pixels.specs.Render.{flipped}
+use Rattle.pixels.specs.Planes.{writeFaults, written}
+use Rattle.packed.specs.Rows.{packedAt}
+
+-- whether the planes can be written
+abbrev pub WriteChecked : RasterLayout → List ℕ → List ℕ → Done → Type 0
+WriteChecked l picture planes answer = doneOutcome answer ≡ unless (writeFaults l picture planes) tt
+
+-- past every refusal
+pub record Served (l : RasterLayout) (picture planes : List ℕ) : Type 0 where
+  pub sound : Sound (recordFaults l)
+  pub bare : l .palette ≡ false
+  pub narrow : eqb (l .bytes) 8 ≡ false
+  pub all : l .«output_len» ≤ length picture
+  pub room : l .«scratch_len» ≤ length planes
+
+abbrev pub WrittenInto : RasterLayout → List ℕ → List ℕ → List ℕ → Type 0
+WrittenInto l picture old new = new ≡ filled (l .«scratch_len») (written l picture) old
+
+-- channels stand in planes of their own
+abbrev pub planar : RasterLayout → Bool
+planar l = l .separate && not (eqb (l .slots) 8)
+
+-- white turns channel c over
+abbrev pub turnsOver : RasterLayout → ℕ → Bool
+turnsOver l c = l .white && (eqb (l .alpha) 0 || not (eqb c (l .ch - 1)))
+
+-- bytes of one channel of the pixels of a picture, its first byte at `first`
+abbrev pub OneOrTwo : ℕ → Type 0
+OneOrTwo bytes = (bytes ≡ 1) ⊎ (bytes ≡ 2)
+
+abbrev pub channelAt : List ℕ → ℕ → ℕ → ℕ → Bool → ℕ → ℕ
+channelAt picture first stride bytes le j = getD picture (first + j / bytes * stride + turned bytes le (j % bytes)) 0
+
+pub record ChannelFits (picture : List ℕ) (first stride bytes : ℕ) (out : List ℕ) : Type 0 where
+  pub inside : first + bytes ≤ stride
+  pub words : length out % bytes ≡ 0
+  pub pixels : length out / bytes * stride ≤ length picture
+  pub limited : stride ≤ 32
+
+abbrev pub ChannelInto : List ℕ → ℕ → ℕ → ℕ → Bool → List ℕ → List ℕ → Type 0
+ChannelInto picture first stride bytes le old new = new ≡ table (length old) (channelAt picture first stride bytes le)
+
+-- the plane of channel c
+pub record PlaneOf (l : RasterLayout) (picture : List ℕ) (c : ℕ) (out : List ℕ) : Type 0 where
+  pub sound : Sound (recordFaults l)
+  pub narrow : eqb (l .bytes) 8 ≡ false
+  pub all : l .«output_len» ≤ length picture
+  pub apart : planar l ≡ true
+  pub channel : c < l .ch
+  pub room : length out ≡ l .«plane_len»
+
+abbrev pub PlaneWritten : RasterLayout → List ℕ → ℕ → List ℕ → List ℕ → Type 0
+PlaneWritten l picture c old new = new ≡ table (length old) (λ j. written l picture (c * l .«plane_len» + j))
+
+pub record Apart (l : RasterLayout) (picture planes : List ℕ) : Type 0 where
+  pub served : Served l picture planes
+  pub apart : planar l ≡ true
+
+-- bytes of a row of the picture, and of a row of the planes where they are one
+abbrev pub rowBytes : RasterLayout → ℕ
+rowBytes l = l .w * (l .ch * l .bytes)
+
+abbrev pub planeRow : RasterLayout → ℕ
+planeRow l = l .«encoded_width» * l .«plane_channels»
+
+abbrev pub TurnedOver : RasterLayout → List ℕ → List ℕ → Type 0
+TurnedOver l old new = new ≡ table (length old) (λ j. flipped (turnsOver l (j % l .ch)) (getD old j 0))
+
+-- a row of bytes or words
+pub record PlainFits (l : RasterLayout) (row out : List ℕ) : Type 0 where
+  pub width : OneOrTwo (l .bytes)
+  pub some : 0 < l .ch
+  pub words : length row % l .bytes ≡ 0
+  pub pixels : length row % l .ch ≡ 0
+  pub room : length out ≡ length row
+
+abbrev pub PlainRow : RasterLayout → List ℕ → List ℕ → List ℕ → Type 0
+PlainRow l row old new = new ≡ table (length old) (λ j. flipped (turnsOver l (j % l .ch)) (getD row (turned (l .bytes) (l .le) j) 0))
+
+-- a row of the picture, and room for its row of the planes
+pub record RowOf (l : RasterLayout) (row out : List ℕ) : Type 0 where
+  pub sound : Sound (recordFaults l)
+  pub bare : l .palette ≡ false
+  pub narrow : eqb (l .bytes) 8 ≡ false
+  pub together : planar l ≡ false
+  pub all : length row ≡ rowBytes l
+  pub room : length out ≡ planeRow l
+
+-- byte j of a row of the planes
+abbrev pub rowAt : RasterLayout → List ℕ → ℕ → ℕ
+rowAt l row j = pick (eqb (l .slots) 8) (packedAt (l .white) row j) (flipped (turnsOver l (j % l .ch)) (getD row (turned (l .bytes) (l .le) j) 0))
+
+abbrev pub RowWritten : RasterLayout → List ℕ → List ℕ → List ℕ → Type 0
+RowWritten l row old new = new ≡ table (length old) (rowAt l row)
+
+pub record Together (l : RasterLayout) (picture planes : List ℕ) : Type 0 where
+  pub served : Served l picture planes
+  pub together : planar l ≡ false

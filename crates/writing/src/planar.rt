@@ -1,0 +1,92 @@
+// Planes one after another, each filled with its channel of every pixel.
+use layout::RasterLayout;
+ghost use mathlib.Core.Path.{_≡_};
+ghost use Prim.Native.Nat.{_<_};
+ghost use Rattle.answer.specs.Outcome.{pick};
+ghost use Rattle.writing.specs.Parts.{turnsOver, OneOrTwo, ChannelFits, ChannelInto, PlaneOf, PlaneWritten, Apart, WrittenInto};
+
+// One channel of every pixel: a byte of each.
+fn channel1(picture: &[u8], first: usize, stride: usize, le: bool, out: &mut [u8])
+    requires { ⌜ ChannelFits (now picture) first stride 1 (now out) ⌝ }
+    ensures { λ r. ⌜ ChannelInto (now (picture .entry)) first stride 1 le (now (out .entry)) (now (out .exit)) ⌝ }
+{
+    let mut from = first;
+    let mut at: usize = 0;
+    while at < out.len() {
+        out[at] = picture[from];
+        from += stride;
+        at += 1;
+    }
+}
+
+// Where the more significant byte of a stored word stands.
+fn high(le: bool) -> usize
+    ensures { λ r. ⌜ r ≡ pick le 1 0 ⌝ }
+{
+    if le { 1 } else { 0 }
+}
+
+// The same of two bytes, of which the picture has the more significant one first.
+fn channel2(picture: &[u8], first: usize, stride: usize, le: bool, out: &mut [u8])
+    requires { ⌜ ChannelFits (now picture) first stride 2 (now out) ⌝ }
+    ensures { λ r. ⌜ ChannelInto (now (picture .entry)) first stride 2 le (now (out .entry)) (now (out .exit)) ⌝ }
+{
+    let high = high(le);
+    let mut from = first;
+    let mut at: usize = 0;
+    while at < out.len() {
+        out[at] = picture[from + high];
+        out[at + 1] = picture[from + (1 - high)];
+        from += stride;
+        at += 2;
+    }
+}
+
+fn channel(picture: &[u8], first: usize, stride: usize, bytes: usize, le: bool, out: &mut [u8])
+    requires { ⌜ ChannelFits (now picture) first stride bytes (now out) × OneOrTwo bytes ⌝ }
+    ensures { λ r. ⌜ ChannelInto (now (picture .entry)) first stride bytes le (now (out .entry)) (now (out .exit)) ⌝ }
+{
+    if bytes == 2 {
+        channel2(picture, first, stride, le, out);
+    } else {
+        channel1(picture, first, stride, le, out);
+    }
+}
+
+// Whether white turns channel c over: every one but alpha.
+fn turns_over(l: RasterLayout, c: usize) -> bool
+    requires { ⌜ c < l .ch ⌝ }
+    ensures { λ r. ⌜ r ≡ turnsOver l c ⌝ }
+{
+    if l.white {
+        if l.alpha == 0 { true } else { c != l.ch - 1 }
+    } else {
+        false
+    }
+}
+
+// The plane of channel c.
+fn write_plane(l: RasterLayout, picture: &[u8], c: usize, out: &mut [u8])
+    requires { ⌜ PlaneOf l (now picture) c (now out) ⌝ }
+    ensures { λ r. ⌜ PlaneWritten l (now (picture .entry)) c (now (out .entry)) (now (out .exit)) ⌝ }
+{
+    channel(picture, c * l.bytes, l.ch * l.bytes, l.bytes, l.le, out);
+    if turns_over(l, c) {
+        pixels::invert(out);
+    }
+}
+
+// Every plane.
+pub(crate) fn write_apart(l: RasterLayout, picture: &[u8], planes: &mut [u8])
+    requires { ⌜ Apart l (now picture) (now planes) ⌝ }
+    ensures { λ r. ⌜ WrittenInto l (now (picture .entry)) (now (planes .entry)) (now (planes .exit)) ⌝ }
+{
+    let mut start: usize = 0;
+    let mut c: usize = 0;
+    while c < l.ch {
+        let end = start + l.plane_len;
+        write_plane(l, picture, c, &mut planes[start..end]);
+        start = end;
+        c += 1;
+    }
+}

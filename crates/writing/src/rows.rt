@@ -1,0 +1,59 @@
+// One plane, row by row.
+use layout::RasterLayout;
+ghost use Rattle.pixels.specs.Finish.{WholePixels};
+ghost use Rattle.writing.specs.Parts.{TurnedOver, PlainFits, PlainRow, RowOf, RowWritten, Together, WrittenInto};
+
+// White turns over every byte but alpha's.
+fn turn_over(l: RasterLayout, s: &mut [u8])
+    requires { ⌜ WholePixels (now s) (l .ch) ⌝ }
+    ensures { λ r. ⌜ TurnedOver l (now (s .entry)) (now (s .exit)) ⌝ }
+{
+    if l.white {
+        if l.alpha == 0 {
+            pixels::invert(s);
+        } else {
+            pixels::straighten_row(s, l.ch, false, true);
+        }
+    }
+}
+
+// A row whose samples are bytes or words: its words in the planes' byte order.
+fn plain_row(l: RasterLayout, row: &[u8], out: &mut [u8])
+    requires { ⌜ PlainFits l (now row) (now out) ⌝ }
+    ensures { λ r. ⌜ PlainRow l (now (row .entry)) (now (out .entry)) (now (out .exit)) ⌝ }
+{
+    strips::reorder(row, l.bytes, false, l.le, out);
+    turn_over(l, out);
+}
+
+// A row of the picture.
+fn write_row(l: RasterLayout, row: &[u8], out: &mut [u8])
+    requires { ⌜ RowOf l (now row) (now out) ⌝ }
+    ensures { λ r. ⌜ RowWritten l (now (row .entry)) (now (out .entry)) (now (out .exit)) ⌝ }
+{
+    if l.slots == 8 {
+        packed::pack_row(row, l.white, out);
+    } else {
+        plain_row(l, row, out);
+    }
+}
+
+// Every row.
+pub(crate) fn write_rows(l: RasterLayout, picture: &[u8], planes: &mut [u8])
+    requires { ⌜ Together l (now picture) (now planes) ⌝ }
+    ensures { λ r. ⌜ WrittenInto l (now (picture .entry)) (now (planes .entry)) (now (planes .exit)) ⌝ }
+{
+    let read = l.w * (l.ch * l.bytes);
+    let wrote = l.encoded_width * l.plane_channels;
+    let mut from: usize = 0;
+    let mut at: usize = 0;
+    let mut y: usize = 0;
+    while y < l.h {
+        let end = from + read;
+        let stop = at + wrote;
+        write_row(l, &picture[from..end], &mut planes[at..stop]);
+        from = end;
+        at = stop;
+        y += 1;
+    }
+}
