@@ -47,16 +47,18 @@ twoLevels zero picture = true
 twoLevels (suc n) picture = twoLevels n picture && (eqb (getD picture n 0) 0 || eqb (getD picture n 0) 255)
 
 -- document 01's order
-abbrev pub writeFaults : RasterLayout → List ℕ → List ℕ → List Fault
-writeFaults l picture old =
-    recordFaults l
-    ++ (unsupported (l .palette)
+abbrev pub planeFaults : RasterLayout → List ℕ → List ℕ → List Fault
+planeFaults l picture old =
+    unsupported (l .palette)
     ∷ unsupported (eqb (l .bytes) 8)
     ∷ unsupported (eqb (l .alpha) 1)
     ∷ truncated (ltb (length picture) (l .«output_len»))
     ∷ outputTooSmall (ltb (length old) (l .«scratch_len»))
     ∷ invalid (eqb (l .slots) 8 && not (twoLevels (l .«output_len») picture))
-    ∷ [])
+    ∷ []
+
+abbrev pub writeFaults : RasterLayout → List ℕ → List ℕ → List Fault
+writeFaults l picture old = recordFaults l ++ planeFaults l picture old
 
 abbrev pub Written : RasterLayout → List ℕ → List ℕ → Done → List ℕ → Type 0
 Written l picture old answer new =
