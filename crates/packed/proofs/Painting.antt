@@ -15,7 +15,8 @@ use Rattle.layout.proofs.Accepted.{OneTwoEight, one-two-eight}
 use Rattle.answer.specs.Table.{filled}
 use Rattle.answer.proofs.Filling.{length-stores, stores-filled, filled-same}
 use Rattle.words.specs.Word.{Bytes, wordAt}
-use Rattle.packed.specs.Rows.{coloursOf, indexAt, paletteAt, IndexAt, high, Painted, paintedAt, PaintedInto, PaintFits, paletteFaults}
+use Rattle.pixels.specs.Render.{highByte}
+use Rattle.packed.specs.Rows.{coloursOf, indexAt, paletteAt, IndexAt, Painted, paintedAt, PaintedInto, PaintFits, paletteFaults}
 
 pub colours-few : (slots : ℕ) → (0 < coloursOf slots) × (coloursOf slots ≤ 256)
 colours-few slots = by (eqb slots 8) (eqb slots 2)
@@ -25,12 +26,12 @@ colours-few slots = by (eqb slots 8) (eqb slots 2)
     by false true = omega arith
     by false false = omega arith
 
-high-few : (le : Bool) → high le ≤ 1
+high-few : (le : Bool) → highByte le ≤ 1
 high-few true = omega arith
 high-few false = omega arith
 
 -- with no fault all that is read is there
-pub paint-fits : (file : List ℕ) (map slots : ℕ) (le : Bool) (raw out : List ℕ) → Sound (paletteFaults (length file) map slots (length raw) (length out)) → (oneTwoEight slots ≡ true) × PaintFits file (map + high le) slots raw out
+pub paint-fits : (file : List ℕ) (map slots : ℕ) (le : Bool) (raw out : List ℕ) → Sound (paletteFaults (length file) map slots (length raw) (length out)) → (oneTwoEight slots ≡ true) × PaintFits file (map + highByte le) slots raw out
 paint-fits file map slots le raw out (next served (next groups (next within (next bytes none)))) = (
   not-false (oneTwoEight slots) served,
   record {
@@ -79,18 +80,18 @@ module _ {file : List ℕ} {first slots : ℕ} {raw old : List ℕ} {x : ℕ} {o
   columns-all whole end = let all : 3 * x ≡ length old = omega (arith, is .inside) in rw all at (is .so-far)
 
 -- the more significant byte of an entry
-high-byte : (file : List ℕ) (place : ℕ) (le : Bool) → Bytes file → wordAt file place 2 le / 256 ≡ getD file (place + high le) 0
+high-byte : (file : List ℕ) (place : ℕ) (le : Bool) → Bytes file → wordAt file place 2 le / 256 ≡ getD file (place + highByte le) 0
 high-byte file place true b = omega (arith, b (place + 0), b (place + 1))
 high-byte file place false b = omega (arith, b (place + 0), b (place + 1))
 
-painted-palette : (file : List ℕ) (map slots : ℕ) (le : Bool) (raw : List ℕ) (j : ℕ) → Bytes file → paintedAt file (map + high le) slots raw j ≡ paletteAt file map slots le raw j
+painted-palette : (file : List ℕ) (map slots : ℕ) (le : Bool) (raw : List ℕ) (j : ℕ) → Bytes file → paintedAt file (map + highByte le) slots raw j ≡ paletteAt file map slots le raw j
 unfolding paletteAt
 painted-palette file map slots le raw j b =
     let index = indexAt slots raw (j / 3) in
     let thirds : j % 3 * (2 * coloursOf slots) ≡ 2 * (j % 3 * coloursOf slots) = mul-left-comm (j % 3) 2 (coloursOf slots) in
-    let place : map + high le + 2 * index + j % 3 * (2 * coloursOf slots) ≡ map + 2 * (j % 3 * coloursOf slots + index) + high le = omega arith in
+    let place : map + highByte le + 2 * index + j % 3 * (2 * coloursOf slots) ≡ map + 2 * (j % 3 * coloursOf slots + index) + highByte le = omega arith in
     ap (λ (n : ℕ). getD file n 0) place ∙ sym (high-byte file (map + 2 * (j % 3 * coloursOf slots + index)) le b)
 
 -- so a painted row is the promised one
-pub palette-filled : (file : List ℕ) (map slots : ℕ) (le : Bool) (raw old new : List ℕ) → Bytes file → PaintedInto file (map + high le) slots raw old new → new ≡ filled (length old) (paletteAt file map slots le raw) old
+pub palette-filled : (file : List ℕ) (map slots : ℕ) (le : Bool) (raw old new : List ℕ) → Bytes file → PaintedInto file (map + highByte le) slots raw old new → new ≡ filled (length old) (paletteAt file map slots le raw) old
 palette-filled file map slots le raw old new b p = p ∙ filled-same (length old) _ _ old (λ k h. painted-palette file map slots le raw k b)

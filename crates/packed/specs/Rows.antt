@@ -88,10 +88,6 @@ PackedInto picture white old new = new ≡ filled (length picture / 8) (packedAt
 abbrev pub IndexAt : ℕ → List ℕ → ℕ → ℕ → Type 0
 IndexAt slots raw x index = (index ≡ indexAt slots raw x) × (index < coloursOf slots)
 
--- where an entry's more significant byte stands
-abbrev pub high : Bool → ℕ
-high le = pick le 1 0
-
 -- a pixel's three bytes, one from each third of the map
 abbrev pub Painted : List ℕ → ℕ → ℕ → List ℕ → ℕ → List ℕ → Type 0
 Painted file place step old at new = new ≡ stores old at 3 (λ c. getD file (place + c * step) 0)

@@ -108,7 +108,7 @@ pub fn palette_row(
     match check_palette(file.len(), map, slots, raw.len(), out.len()) {
         Done::Refused(k) => Done::Refused(k),
         Done::Done => {
-            paint::paint_row(file, map + paint::high(le), slots, raw, out);
+            paint::paint_row(file, map + pixels::high(le), slots, raw, out);
             Done::Done
         }
     }

@@ -4,7 +4,7 @@ ghost use mathlib.Core.Bool.{true};
 ghost use Prim.Native.Nat.{_+_, _*_, _/_, _≤_, _<_};
 ghost use lib.ListN.{length};
 ghost use Rattle.layout.specs.Layout.{oneTwoEight};
-ghost use Rattle.packed.specs.Rows.{coloursOf, high as highOf, IndexAt, Painted, PaintFits, PaintedInto};
+ghost use Rattle.packed.specs.Rows.{coloursOf, IndexAt, Painted, PaintFits, PaintedInto};
 
 pub(crate) fn one_two_eight(n: usize) -> bool
     ensures { λ r. ⌜ r ≡ oneTwoEight n ⌝ }
@@ -29,13 +29,6 @@ pub(crate) fn colours(slots: usize) -> usize
         return 16;
     }
     256
-}
-
-// Where an entry's more significant byte stands.
-pub(crate) fn high(le: bool) -> usize
-    ensures { λ r. ⌜ r ≡ highOf le ⌝ }
-{
-    if le { 1 } else { 0 }
 }
 
 // A pixel's red, green and blue, each a third of the map further on.

@@ -5,11 +5,14 @@ use mathlib.Core.List.{List}
 use Prim.Native.Nat.{ℕ}
 use Rattle.answer.specs.declared.Done.{Done}
 use Rattle.answer.proofs.Promised.{done-determined}
-use Rattle.pixels.specs.Render.{flipped}
+use Rattle.pixels.specs.Render.{flipped, highByte}
 use Rattle.pixels.specs.Finish.{Inverted, Straightened}
 
 pub flip-determined : (white : Bool) (v a b : ℕ) → a ≡ flipped white v → b ≡ flipped white v → a ≡ b
 flip-determined white v a b p q = p ∙ sym q
+
+pub high-determined : (le : Bool) (a b : ℕ) → a ≡ highByte le → b ≡ highByte le → a ≡ b
+high-determined le a b p q = p ∙ sym q
 
 pub invert-determined : (old x y : List ℕ) → Inverted old x → Inverted old y → x ≡ y
 invert-determined old x y p q = p ∙ sym q

@@ -1,21 +1,56 @@
--- Words of one or two bytes stored in another byte order: the bytes of each change places, as the layout turns them. Assumes nothing.
-use Prim.Native.Nat.{ℕ, _+_, _-_, _%_, _<_}
+-- Words of one or two bytes in the other byte order: the bytes of each change places, as the layout turns them. Assumes nothing.
+use Prim.Native.Nat.{ℕ, _+_, _-_, _*_, _%_, _<_}
 use mathlib.Core.Path.{_≡_, refl, ap, _∙_}
 use mathlib.Core.Bool.{Bool, true, false, _&&_}
 use mathlib.Core.List.{List}
 use mathlib.Core.Logic.{_⊎_, inl, inr}
 use native.Mathlib.Omega.{arith}
+use borrow.Author.Tests.{eqb-false}
 use lib.ListN.{getD}
 use lib.Dec.{eqb}
-use Rattle.answer.specs.Outcome.{pick}
+use Rattle.answer.specs.Outcome.{Sound, pick}
 use Rattle.words.specs.Word.{Bytes}
 use Rattle.swaps.specs.Swapped.{mirror}
 use Rattle.strips.specs.Sample.{wordOf, storedAt}
 use Rattle.strips.specs.Promises.{apart}
 use Rattle.strips.proofs.Orders.{same-order, other-order}
-use Rattle.layout.specs.Layout.{turned}
+use Rattle.layout.specs.declared.RasterLayout.{RasterLayout}
+use Rattle.layout.specs.Layout.{recordFaults, turned}
+use Rattle.layout.proofs.Whole.{record-accepted}
+use Rattle.pixels.specs.Render.{highByte, OneOrTwo}
 
-turned-mirror : {bytes : ℕ} → (bytes ≡ 1) ⊎ (bytes ≡ 2) → (k : ℕ) → mirror bytes k ≡ turned bytes true k
+-- a width that a record has, and that is not 8
+pub one-or-two : (l : RasterLayout) → Sound (recordFaults l) → eqb (l .bytes) 8 ≡ false → OneOrTwo (l .bytes)
+one-or-two l s narrow = by (record-accepted l s .bytes)
+  where
+    by : ((l .bytes ≡ 1) ⊎ (l .bytes ≡ 2)) ⊎ (l .bytes ≡ 8) → OneOrTwo (l .bytes)
+    by (inl w) = w
+    by (inr e) = absurd (eqb-false (l .bytes) 8 narrow e)
+
+pub turned-one : (le : Bool) (c : ℕ) → turned 1 le c ≡ c
+unfolding turned
+turned-one le c = refl
+
+pub turned-two : (le : Bool) → (turned 2 le 0 ≡ highByte le) × (turned 2 le 1 ≡ 1 - highByte le)
+unfolding turned
+turned-two true = (refl, refl)
+turned-two false = (refl, refl)
+
+-- words stand apart from words
+pub turned-in : (bytes : ℕ) → OneOrTwo bytes → (le : Bool) (c b : ℕ) → turned bytes le (c * bytes + b) ≡ c * bytes + turned bytes le b
+unfolding turned
+turned-in bytes (inl e) le c b = rw e
+turned-in bytes (inr e) true c b = rw e (omega arith)
+turned-in bytes (inr e) false c b = rw e
+
+-- a byte of a word is a byte of whatever the word is in
+pub turned-below : (bytes : ℕ) → OneOrTwo bytes → (le : Bool) (n j : ℕ) → n % bytes ≡ 0 → j < n → turned bytes le j < n
+unfolding turned
+turned-below bytes (inl e) le n j whole h = rw e h
+turned-below bytes (inr e) true n j whole h = let even : n % 2 ≡ 0 = rw e at whole in rw e (omega arith)
+turned-below bytes (inr e) false n j whole h = rw e h
+
+turned-mirror : {bytes : ℕ} → OneOrTwo bytes → (k : ℕ) → mirror bytes k ≡ turned bytes true k
 unfolding turned
 turned-mirror (inl e) k = rw e (omega arith)
 turned-mirror (inr e) k = rw e (omega arith)
@@ -28,10 +63,10 @@ turned-same bytes k = by (eqb bytes 2)
     by true = refl
     by false = refl
 
-pub stored-turned : (raw : List ℕ) → Bytes raw → {bytes : ℕ} → (bytes ≡ 1) ⊎ (bytes ≡ 2) → (le out-le : Bool) (k : ℕ) → storedAt bytes out-le (wordOf bytes le raw) k ≡ getD raw (turned bytes (apart le out-le) k) 0
+pub stored-turned : (raw : List ℕ) → Bytes raw → {bytes : ℕ} → OneOrTwo bytes → (le out-le : Bool) (k : ℕ) → storedAt bytes out-le (wordOf bytes le raw) k ≡ getD raw (turned bytes (apart le out-le) k) 0
 stored-turned raw b {bytes} width le out-le k = by (apart le out-le) refl
   where
-    some : (bytes ≡ 1) ⊎ (bytes ≡ 2) → 0 < bytes
+    some : OneOrTwo bytes → 0 < bytes
     some (inl e) = omega arith
     some (inr e) = omega arith
 

@@ -2,6 +2,8 @@
 -- `sourceIndex`. And the order of `render`'s refusals. Assumes nothing.
 use Prim.Native.Nat.{ℕ, _+_, _-_, _*_, _/_, _%_, _^_, min}
 use mathlib.Core.Bool.{Bool, not, _&&_}
+use mathlib.Core.Path.{_≡_}
+use mathlib.Core.Logic.{_⊎_}
 use mathlib.Core.List.{List, [], _∷_, _++_}
 use lib.ListN.{length, getD}
 use lib.Dec.{eqb, ltb}
@@ -24,6 +26,14 @@ straightened u a = pick (eqb a 0) 0 (min 255 (255 * u / a))
 -- a colour byte v beside the alpha byte a
 abbrev pub straightColour : Bool → Bool → ℕ → ℕ → ℕ
 straightColour multiplied white v a = pick multiplied (straightened (flipped white v) a) (flipped white v)
+
+-- which byte of a stored two-byte word is the more significant one
+abbrev pub highByte : Bool → ℕ
+highByte le = pick le 1 0
+
+-- the widths that are rendered and written
+abbrev pub OneOrTwo : ℕ → Type 0
+OneOrTwo bytes = (bytes ≡ 1) ⊎ (bytes ≡ 2)
 
 -- the byte of the planes that byte k of the picture comes from
 abbrev pub source : RasterLayout → List ℕ → ℕ → ℕ

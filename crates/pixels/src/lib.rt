@@ -3,7 +3,7 @@ use answer::Refusal;
 ghost use mathlib.Core.Path.{_≡_};
 ghost use Prim.Native.Nat.{_+_, _≤_, _<_};
 ghost use lib.ListN.{length};
-ghost use Rattle.pixels.specs.Render.{flipped, straightened, straightColour};
+ghost use Rattle.pixels.specs.Render.{flipped, highByte, straightened, straightColour};
 ghost use Rattle.pixels.specs.Finish.{Inverted, Straightened, PixelStraightened, PixelsStraightened, WholePixels};
 
 // A byte turned over where white is 0.
@@ -11,6 +11,13 @@ pub fn flip(white: bool, v: u8) -> u8
     ensures { λ r. ⌜ r ≡ flipped white v ⌝ }
 {
     if white { 255 - v } else { v }
+}
+
+// Which byte of a stored two-byte word is the more significant one.
+pub fn high(le: bool) -> usize
+    ensures { λ r. ⌜ r ≡ highByte le ⌝ }
+{
+    if le { 1 } else { 0 }
 }
 
 // A colour that was multiplied by alpha, divided by it again: document 01's rule for alpha kind 1.

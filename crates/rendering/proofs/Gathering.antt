@@ -13,18 +13,14 @@ use Rattle.answer.specs.Table.{table, filled, stores}
 use Rattle.answer.proofs.Filling.{length-stores, stores-on, stores-filled, length-filled, filled-all}
 use Rattle.swaps.proofs.Mirror.{group-room}
 use Rattle.layout.specs.Layout.{turned}
+use Rattle.pixels.proofs.Turned.{turned-one, turned-two, turned-in}
 use Rattle.pixels.proofs.Places.{group-of, item-of}
-use Rattle.rendering.specs.Rows.{OneOrTwo, planePlace, planesAt, PixelFits, PixelGathered, PlanesFit, PlanesInto}
+use Rattle.pixels.specs.Render.{highByte, OneOrTwo}
+use Rattle.rendering.specs.Rows.{planePlace, planesAt, PixelFits, PixelGathered, PlanesFit, PlanesInto}
 
--- which byte of its channel a byte of the pixel is
-pub turned-one : (le : Bool) (c : ℕ) → turned 1 le c ≡ c
-unfolding turned
-turned-one le c = refl
-
-pub turned-two : (le : Bool) (c p : ℕ) → p < 2 → turned 2 le (c * 2 + p) ≡ c * 2 + pick le (1 - p) p
-unfolding turned
-turned-two true c p h = omega arith
-turned-two false c p h = refl
+-- which byte of its channel a byte of a two-byte pixel is
+turned-pair : (le : Bool) (c p : ℕ) → turned 2 le (c * 2 + p) ≡ c * 2 + turned 2 le p
+turned-pair le c p = turned-in 2 (inr refl) le c p
 
 some-bytes : {bytes : ℕ} → OneOrTwo bytes → 0 < bytes
 some-bytes (inl e) = omega arith
@@ -76,20 +72,20 @@ module _ {raw : List ℕ} {planeLength place channels : ℕ} {le : Bool} {at : �
       λ p h. let same : c * 1 + p ≡ c = omega arith in rw (same, turned-one le c, div-one, mod-one) (omega (arith, is .from-is)) in
       channel-next fits is more (λ p. getD raw from 0) (λ p h. ap (λ (i : ℕ). getD raw i 0) (where-from p h)) _ (rw (mul-one, add-zero))
 
-  pub channel-two : PixelFits raw planeLength place channels 2 at old → Channelwise raw planeLength place channels 2 le at old c from out → c < channels → (to high : ℕ) → to ≡ at + c * 2 → high ≡ pick le 1 0 → Channelwise raw planeLength place channels 2 le at old (c + 1) (from + planeLength) (set (set out to (getD raw (from + high) 0)) (to + 1) (getD raw (from + (1 - high)) 0))
+  pub channel-two : PixelFits raw planeLength place channels 2 at old → Channelwise raw planeLength place channels 2 le at old c from out → c < channels → (to high : ℕ) → to ≡ at + c * 2 → high ≡ highByte le → Channelwise raw planeLength place channels 2 le at old (c + 1) (from + planeLength) (set (set out to (getD raw (from + high) 0)) (to + 1) (getD raw (from + (1 - high)) 0))
   channel-two fits is more to high there which =
       channel-next fits is more (λ p. getD raw (from + pick (eqb p 0) high (1 - high)) 0) (λ p h. ap (λ (i : ℕ). getD raw i 0) (agree p h)) _ (rw (there, add-zero))
     where
       place-of : (p q : ℕ) → q < 2 → turned 2 le (c * 2 + p) ≡ c * 2 + q → from + q ≡ planePlace planeLength place 2 le (c * 2 + p)
       place-of p q k e = rw e (rw (group-of c 2 k, item-of c 2 k) (omega (arith, is .from-is)))
 
-      bit : (b : Bool) → (pick b 1 0 < 2) × (1 - pick b 1 0 ≡ pick b 0 1)
-      bit true = (omega arith, refl)
-      bit false = (omega arith, refl)
+      bit : (b : Bool) → highByte b ≤ 1
+      bit true = omega arith
+      bit false = omega arith
 
       agree : (p : ℕ) → p < 2 → from + pick (eqb p 0) high (1 - high) ≡ planePlace planeLength place 2 le (c * 2 + p)
-      agree zero h = ap (λ (n : ℕ). from + n) which ∙ place-of 0 (pick le 1 0) (bit le .0) (turned-two le c 0 (omega arith))
-      agree (suc zero) h = ap (λ (n : ℕ). from + (1 - n)) which ∙ ap (λ (n : ℕ). from + n) (bit le .1) ∙ place-of 1 (pick le 0 1) (omega (arith, bit le .0, bit le .1)) (turned-two le c 1 (omega arith))
+      agree zero h = ap (λ (n : ℕ). from + n) which ∙ place-of 0 (highByte le) (omega (arith, bit le)) (turned-pair le c 0 ∙ ap (λ (n : ℕ). c * 2 + n) (turned-two le .0))
+      agree (suc zero) h = ap (λ (n : ℕ). from + (1 - n)) which ∙ place-of 1 (1 - highByte le) (omega (arith, bit le)) (turned-pair le c 1 ∙ ap (λ (n : ℕ). c * 2 + n) (turned-two le .1))
       agree (suc (suc p)) h = absurd (omega arith)
 
 -- the loop over the pixels of a row

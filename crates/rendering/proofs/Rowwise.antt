@@ -23,9 +23,10 @@ use Rattle.layout.specs.Layout.{given, byteLimit, encodedWidth, planeChannels, 
 use Rattle.layout.proofs.Whole.{record-accepted, record-agreed}
 use Rattle.layout.proofs.Placed.{grouped, stride-some, output-is, plain-one, row-is, turned-within, scratch-limited}
 use Rattle.pixels.specs.Render.{source}
-use Rattle.pixels.proofs.Turned.{stored-turned}
+use Rattle.pixels.proofs.Turned.{one-or-two, turned-in, stored-turned}
 use Rattle.pixels.proofs.Places.{group-of, item-of, stride, plane-is, together-is, apart-source, together-source}
-use Rattle.rendering.specs.Rows.{OneOrTwo, rowBytes, planeRow, PlainRow, Gathered, planePlace, planesAt, PlanesFit, PlanesInto}
+use Rattle.pixels.specs.Render.{OneOrTwo}
+use Rattle.rendering.specs.Rows.{rowBytes, planeRow, PlainRow, Gathered, planePlace, planesAt, PlanesFit, PlanesInto}
 
 -- bytes of a part are bytes
 pub part-bytes : (a e : ℕ) (l : List ℕ) → Bytes l → Bytes (part a e l)
@@ -41,19 +42,12 @@ served-these (inl e) = rw e
 served-these (inr e) = rw e
 
 -- words do not cross pixels
-pub turned-group : {bytes : ℕ} → OneOrTwo bytes → (le : Bool) (ch a c : ℕ) → turned bytes le (a * (ch * bytes) + c) ≡ a * (ch * bytes) + turned bytes le c
-unfolding turned
-turned-group (inl e) le ch a c = rw e
-turned-group (inr e) true ch a c = let even : a * (ch * 2) ≡ a * ch * 2 = sym (mul-assoc a ch 2) in rw (e, even) (omega arith)
-turned-group (inr e) false ch a c = rw e
+turned-group : {bytes : ℕ} → OneOrTwo bytes → (le : Bool) (ch a c : ℕ) → turned bytes le (a * (ch * bytes) + c) ≡ a * (ch * bytes) + turned bytes le c
+turned-group {bytes} w le ch a c = let words : a * ch * bytes ≡ a * (ch * bytes) = mul-assoc a ch bytes in rw (← words) (turned-in bytes w le (a * ch) c)
 
 module _ {l : RasterLayout} {raw : List ℕ} {y : ℕ} {out : List ℕ} (row : PlainRow l raw y out) where
-  pub one-or-two : OneOrTwo (l .bytes)
-  one-or-two = by (record-accepted l (row .sound) .bytes)
-    where
-      by : ((l .bytes ≡ 1) ⊎ (l .bytes ≡ 2)) ⊎ (l .bytes ≡ 8) → OneOrTwo (l .bytes)
-      by (inl e) = e
-      by (inr e) = absurd (eqb-false (l .bytes) 8 (row .bytes) e)
+  pub narrow : OneOrTwo (l .bytes)
+  narrow = one-or-two l (row .sound) (row .bytes)
 
   -- the rows of the picture, and of a plane
   pub row-end : y * rowBytes l + rowBytes l ≤ l .h * rowBytes l
@@ -109,7 +103,7 @@ module _ {l : RasterLayout} {raw : List ℕ} {y : ℕ} {out : List ℕ} (row : P
         let both = plane-is l (row .sound) (row .plain) e .1 in
         record {
           some = record-accepted l (row .sound) .some;
-          width = one-or-two;
+          width = narrow;
           pixels = rw (row .room) (mul-mod-left (l .w) (l .ch * l .bytes));
           inside = rw wide (omega (arith, plane-row-end, row-apart));
           planes = omega (arith, both, row .planes);
@@ -150,14 +144,14 @@ module _ {l : RasterLayout} {raw : List ℕ} {y : ℕ} {out : List ℕ} (row : P
     turned-inside : (j : ℕ) → j < length out → turned (l .bytes) (l .le) j < length out
     turned-inside j h =
         let c = turned (l .bytes) (l .le) (j % stride l) in
-        let there : turned (l .bytes) (l .le) j ≡ j / stride l * stride l + c = ap (turned (l .bytes) (l .le)) (sym (div-add-mod' j (stride l))) ∙ turned-group one-or-two (l .le) (l .ch) (j / stride l) (j % stride l) in
+        let there : turned (l .bytes) (l .le) j ≡ j / stride l * stride l + c = ap (turned (l .bytes) (l .le)) (sym (div-add-mod' j (stride l))) ∙ turned-group narrow (l .le) (l .ch) (j / stride l) (j % stride l) in
         let pixel : j / stride l < l .w = div-lt-iff-lt-mul (stride-some l (row .sound)) .1 (omega (arith, row .room)) in
         omega (arith, there, row .room, grouped pixel (turned-within l (row .sound) (j % stride l) (byte-within j)))
 
     at : (j : ℕ) → sourceIndex l (y * rowBytes l + j) ≡ y * planeRow l + turned (l .bytes) (l .le) j
     at j =
         let c = turned (l .bytes) (l .le) (j % stride l) in
-        let there : turned (l .bytes) (l .le) j ≡ j / stride l * stride l + c = ap (turned (l .bytes) (l .le)) (sym (div-add-mod' j (stride l))) ∙ turned-group one-or-two (l .le) (l .ch) (j / stride l) (j % stride l) in
+        let there : turned (l .bytes) (l .le) j ≡ j / stride l * stride l + c = ap (turned (l .bytes) (l .le)) (sym (div-add-mod' j (stride l))) ∙ turned-group narrow (l .le) (l .ch) (j / stride l) (j % stride l) in
         ap (sourceIndex l) (pixel-byte j)
         ∙ together-source l (row .sound) (row .plain) e (y * l .w + j / stride l) (j % stride l) (byte-within j)
         ∙ omega (arith, there, row-together, add-mul (y * l .w) (j / stride l) (stride l), mul-assoc y (l .w) (stride l), ap (λ (n : ℕ). y * n) row-together)
@@ -165,14 +159,14 @@ module _ {l : RasterLayout} {raw : List ℕ} {y : ℕ} {out : List ℕ} (row : P
     pub together-gathered : (answer : Done) (new : List ℕ) → Bytes raw → Reordered (part (y * planeRow l) (y * planeRow l + length out) raw) (l .bytes) (l .le) false out answer new → Gathered l raw y out new
     unfolding mine
     together-gathered answer new b p =
-        let width : served (l .bytes) ≡ true = served-these one-or-two in
-        let whole : length mine % l .bytes ≡ 0 = rw (long, row .room) (words-whole one-or-two) in
+        let width : served (l .bytes) ≡ true = served-these narrow in
+        let whole : length mine % l .bytes ≡ 0 = rw (long, row .room) (words-whole narrow) in
         let sound : Sound (reorderFaults mine (l .bytes) out) = next (ap not width) (next (ap not (eq-eqb _ _ whole)) (next (le-ltb (length out) (length mine) (omega (arith, long))) none)) in
         finished (reorderFaults mine (l .bytes) out) tt (length mine) (storedAt (l .bytes) false (wordOf (l .bytes) (l .le) mine)) out new sound p
         ∙ filled-all (length mine) _ out (omega (arith, long))
         ∙ ap (λ (n : ℕ). table n (storedAt (l .bytes) false (wordOf (l .bytes) (l .le) mine))) long
         ∙ table-same (length out) _ _ (λ j h.
-        stored-turned mine (part-bytes (y * planeRow l) (y * planeRow l + length out) raw b) one-or-two (l .le) false j
+        stored-turned mine (part-bytes (y * planeRow l) (y * planeRow l + length out) raw b) narrow (l .le) false j
         ∙ ap (λ (d : Bool). getD mine (turned (l .bytes) d j) 0) (apart-from-false (l .le))
         ∙ part-at (y * planeRow l) (y * planeRow l + length out) raw (turned (l .bytes) (l .le) j) (omega (arith, turned-inside j h))
         ∙ ap (λ (i : ℕ). getD raw i 0) (sym (at j)))

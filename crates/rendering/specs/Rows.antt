@@ -3,14 +3,13 @@ use Prim.Native.Nat.{ℕ, _+_, _-_, _*_, _/_, _%_, _≤_, _<_}
 use mathlib.Core.Path.{_≡_}
 use mathlib.Core.Bool.{Bool, true, false, not, _&&_}
 use mathlib.Core.List.{List}
-use mathlib.Core.Logic.{_⊎_}
 use lib.ListN.{length, getD}
 use lib.Dec.{eqb}
 use Rattle.answer.specs.Outcome.{Sound, pick}
 use Rattle.answer.specs.Table.{table, filled, stores}
 use Rattle.layout.specs.declared.RasterLayout.{RasterLayout}
 use Rattle.layout.specs.Layout.{recordFaults, packed, turned}
-use Rattle.pixels.specs.Render.{flipped, straightColour, source, plainByte, converted}
+use Rattle.pixels.specs.Render.{flipped, OneOrTwo, straightColour, source, plainByte, converted}
 
 -- bytes of a row of the picture, and of a row of a plane
 abbrev pub rowBytes : RasterLayout → ℕ
@@ -74,9 +73,6 @@ pub record WholeRow (l : RasterLayout) (out : List ℕ) : Type 0 where
 
 abbrev pub Finished : RasterLayout → List ℕ → List ℕ → Type 0
 Finished l old new = new ≡ table (length old) (finishedAt l old)
-
-abbrev pub OneOrTwo : ℕ → Type 0
-OneOrTwo bytes = (bytes ≡ 1) ⊎ (bytes ≡ 2)
 
 -- byte c of a pixel whose channels stand in planes of their own, from a place of the first on
 abbrev pub planePlace : ℕ → ℕ → ℕ → Bool → ℕ → ℕ

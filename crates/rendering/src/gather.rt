@@ -1,8 +1,8 @@
 // The bytes of a row in the picture's order, where each is a byte of the planes.
 use layout::RasterLayout;
 ghost use mathlib.Core.Path.{_≡_};
-ghost use Rattle.answer.specs.Outcome.{pick};
-ghost use Rattle.rendering.specs.Rows.{OneOrTwo, PlainRow, Gathered, PixelFits, PixelGathered, PlanesFit, PlanesInto};
+ghost use Rattle.pixels.specs.Render.{OneOrTwo};
+ghost use Rattle.rendering.specs.Rows.{PlainRow, Gathered, PixelFits, PixelGathered, PlanesFit, PlanesInto};
 
 // A pixel of one-byte channels, each from its plane.
 fn pixel1(
@@ -26,13 +26,6 @@ fn pixel1(
     }
 }
 
-// Which byte of a stored word is the more significant one.
-fn high(le: bool) -> usize
-    ensures { λ r. ⌜ r ≡ pick le 1 0 ⌝ }
-{
-    if le { 1 } else { 0 }
-}
-
 // A pixel of two-byte channels, the more significant byte first.
 fn pixel2(
     raw: &[u8],
@@ -46,7 +39,7 @@ fn pixel2(
     requires { ⌜ PixelFits (now raw) «plane_len» place channels 2 at (now out) ⌝ }
     ensures { λ r. ⌜ PixelGathered (now (raw .entry)) «plane_len» place channels 2 le at (now (out .entry)) (now (out .exit)) ⌝ }
 {
-    let high = high(le);
+    let high = pixels::high(le);
     let mut from = place;
     let mut to = at;
     let mut c: usize = 0;

@@ -1,7 +1,7 @@
 -- A plane filled with its channel of every pixel: the loop over the pixels. Assumes nothing.
 use Prim.Native.Nat.{ℕ, _+_, _-_, _*_, _/_, _%_, _≤_, _<_}
 use mathlib.Core.Path.{_≡_, refl, sym, ap, _∙_}
-use mathlib.Core.Bool.{Bool, true, false}
+use mathlib.Core.Bool.{Bool}
 use mathlib.Core.List.{List}
 use native.Mathlib.Nat.{zero-mul, add-zero, add-mul, one-mul, mul-mod-left, le-div-iff-mul-le, mul-le-mul-right}
 use native.Mathlib.Omega.{arith}
@@ -13,16 +13,7 @@ use Rattle.swaps.proofs.Mirror.{group-room}
 use Rattle.layout.specs.Layout.{turned}
 use Rattle.pixels.proofs.Places.{group-of, item-of}
 use Rattle.writing.specs.Parts.{channelAt, ChannelFits, ChannelInto}
-
--- which byte of its word a byte is
-pub turned-one : (le : Bool) (c : ℕ) → turned 1 le c ≡ c
-unfolding turned
-turned-one le c = refl
-
-pub turned-two : (le : Bool) → (turned 2 le 0 ≡ pick le 1 0) × (turned 2 le 1 ≡ 1 - pick le 1 0)
-unfolding turned
-turned-two true = (refl, refl)
-turned-two false = (refl, refl)
+use Rattle.pixels.proofs.Turned.{turned-one, turned-two}
 
 -- n pixels are done
 pub record Channelwise (picture : List ℕ) (first stride bytes : ℕ) (le : Bool) (old : List ℕ) (n from at : ℕ) (out : List ℕ) : Type 0 where
@@ -57,7 +48,7 @@ module _ {picture : List ℕ} {first stride bytes : ℕ} {le : Bool} {old : List
     byte-at : (p : ℕ) → p < bytes → getD picture (from + turned bytes le p) 0 ≡ channelAt picture first stride bytes le (at + p)
     byte-at p h = rw (is .at-is, is .from-is, group-of n bytes h, item-of n bytes h)
 
-    pub pixel-next : (new : List ℕ) → new ≡ stores out at bytes (λ p. getD picture (from + turned bytes le p) 0) → Channelwise picture first stride bytes le old (n + 1) (from + stride) (at + bytes) new
+    pixel-next : (new : List ℕ) → new ≡ stores out at bytes (λ p. getD picture (from + turned bytes le p) 0) → Channelwise picture first stride bytes le old (n + 1) (from + stride) (at + bytes) new
     pixel-next new e =
         let now = e ∙ stores-filled (channelAt picture first stride bytes le) _ old out at bytes byte-at pixel-room (is .so-far) in
         record {
@@ -77,7 +68,7 @@ module _ {picture : List ℕ} {first stride bytes : ℕ} {le : Bool} {old : List
 -- the stores of a one-byte channel, and of a two-byte one
 module _ {picture : List ℕ} {first stride : ℕ} {le : Bool} {old : List ℕ} {n from at : ℕ} {out : List ℕ} where
   pub pixel-one : ChannelFits picture first stride 1 old → Channelwise picture first stride 1 le old n from at out → at < length old → Channelwise picture first stride 1 le old (n + 1) (from + stride) (at + 1) (set out at (getD picture from 0))
-  pixel-one fits is more = pixel-next fits (omega arith) is more _ (rw (turned-one, add-zero, add-zero))
+  pixel-one fits is more = pixel-next fits (omega arith) is more _ (rw (turned-one, add-zero at, add-zero from))
 
   pub pixel-two : ChannelFits picture first stride 2 old → Channelwise picture first stride 2 le old n from at out → at < length old → (high : ℕ) → high ≡ pick le 1 0 → Channelwise picture first stride 2 le old (n + 1) (from + stride) (at + 2) (set (set out at (getD picture (from + high) 0)) (at + 1) (getD picture (from + (1 - high)) 0))
   pixel-two fits is more high which = pixel-next fits (omega arith) is more _ (rw (turned-two le .0, turned-two le .1, which, add-zero))

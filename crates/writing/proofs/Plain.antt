@@ -22,7 +22,9 @@ use Rattle.layout.specs.declared.RasterLayout.{RasterLayout}
 use Rattle.layout.specs.Layout.{turned}
 use Rattle.pixels.specs.Render.{flipped}
 use Rattle.pixels.specs.Finish.{Inverted, straightAt, straightFaults, Straightened, WholePixels}
-use Rattle.writing.specs.Parts.{turnsOver, OneOrTwo, TurnedOver, PlainFits, PlainRow}
+use Rattle.pixels.specs.Render.{OneOrTwo}
+use Rattle.pixels.proofs.Turned.{stored-turned}
+use Rattle.writing.specs.Parts.{turnsOver, TurnedOver, PlainFits, PlainRow}
 
 -- white, with no alpha, beside alpha, and none
 module _ (l : RasterLayout) (old : List ℕ) where
@@ -44,14 +46,6 @@ module _ (l : RasterLayout) (old : List ℕ) where
       by : (j : ℕ) (last : Bool) → pick last (getD old j 0) (255 - getD old j 0) ≡ flipped (not last) (getD old j 0)
       by j true = refl
       by j false = refl
-
--- a picture's words have the more significant byte first
-pub stored-turned : (row : List ℕ) → Bytes row → (bytes : ℕ) → OneOrTwo bytes → (le : Bool) (k : ℕ) → storedAt bytes le (wordOf bytes false row) k ≡ getD row (turned bytes le k) 0
-unfolding turned
-stored-turned row b bytes (inl e) true k = rw e (other-order row b 1 (omega arith) k false true refl ∙ ap (λ (i : ℕ). getD row i 0) (omega arith))
-stored-turned row b bytes (inl e) false k = rw e (same-order row b 1 (omega arith) k false false refl)
-stored-turned row b bytes (inr e) true k = rw e (other-order row b 2 (omega arith) k false true refl ∙ ap (λ (i : ℕ). getD row i 0) (omega arith))
-stored-turned row b bytes (inr e) false k = rw e (same-order row b 2 (omega arith) k false false refl)
 
 -- such a row
 module _ {l : RasterLayout} {row old : List ℕ} (fits : PlainFits l row old) (b : Bytes row) where
@@ -78,7 +72,7 @@ module _ {l : RasterLayout} {row old : List ℕ} (fits : PlainFits l row old) (b
 
     ordered-at : (k : ℕ) → k < length row → getD mid k 0 ≡ getD row (turned (l .bytes) (l .le) k) 0
     ordered-at k h =
-        ap (λ (m : List ℕ). getD m k 0) ordered ∙ table-at (length row) _ k h ∙ stored-turned row b (l .bytes) (fits .width) (l .le) k
+        ap (λ (m : List ℕ). getD m k 0) ordered ∙ table-at (length row) _ k h ∙ stored-turned row b (fits .width) false (l .le) k
 
     pub plain-done : (new : List ℕ) → TurnedOver l mid new → PlainRow l row old new
     plain-done new q =

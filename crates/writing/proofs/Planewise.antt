@@ -3,7 +3,6 @@ use Prim.Native.Nat.{ℕ, _+_, _-_, _*_, _/_, _%_, _≤_, _<_}
 use mathlib.Core.Path.{_≡_, refl, sym, ap, _∙_}
 use mathlib.Core.Bool.{Bool, true, false, not, _&&_, _||_}
 use mathlib.Core.List.{List, _++_}
-use mathlib.Core.Logic.{_⊎_, inl, inr}
 use native.Mathlib.Nat.{add-zero, zero-mul, add-mul, one-mul, mul-one, div-one, mod-lt, div-add-mod', div-lt-iff-lt-mul, mul-mod-left, mul-le-mul-right}
 use native.Mathlib.Omega.{arith}
 use borrow.Author.Tests.{eqb-false}
@@ -24,22 +23,8 @@ use Rattle.pixels.specs.Finish.{Inverted}
 use Rattle.pixels.specs.Planes.{placeIndex, flips, written}
 use Rattle.pixels.proofs.Places.{group-of, item-of, plane-is, apart-place}
 use Rattle.pixels.proofs.Undo.{passed}
-use Rattle.writing.specs.Parts.{planar, turnsOver, OneOrTwo, channelAt, ChannelFits, ChannelInto, PlaneOf, PlaneWritten, Apart, WrittenInto}
-
--- a width that a record has, and that is not 8
-pub one-or-two : (l : RasterLayout) → Sound (recordFaults l) → eqb (l .bytes) 8 ≡ false → OneOrTwo (l .bytes)
-one-or-two l s narrow = by (record-accepted l s .bytes)
-  where
-    by : ((l .bytes ≡ 1) ⊎ (l .bytes ≡ 2)) ⊎ (l .bytes ≡ 8) → OneOrTwo (l .bytes)
-    by (inl w) = w
-    by (inr e) = absurd (eqb-false (l .bytes) 8 narrow e)
-
--- words stand apart from words
-pub turned-in : (bytes : ℕ) → OneOrTwo bytes → (le : Bool) (c b : ℕ) → turned bytes le (c * bytes + b) ≡ c * bytes + turned bytes le b
-unfolding turned
-turned-in bytes (inl e) le c b = rw e
-turned-in bytes (inr e) true c b = rw e (omega arith)
-turned-in bytes (inr e) false c b = rw e
+use Rattle.writing.specs.Parts.{planar, turnsOver, channelAt, ChannelFits, ChannelInto, PlaneOf, PlaneWritten, Apart, WrittenInto}
+use Rattle.pixels.proofs.Turned.{one-or-two, turned-in}
 
 module _ (l : RasterLayout) (s : Sound (recordFaults l)) (narrow : eqb (l .bytes) 8 ≡ false) (apart : planar l ≡ true) where
   separated : (l .separate ≡ true) × (eqb (l .slots) 8 ≡ false)
@@ -57,7 +42,7 @@ module _ (l : RasterLayout) (s : Sound (recordFaults l)) (narrow : eqb (l .bytes
   plane = plane-is l s plain (separated .0) .0
 
   -- a plane has its channel of each pixel
-  pub plane-pixels : (l .«plane_len» % l .bytes ≡ 0) × (l .«plane_len» / l .bytes ≡ l .w * l .h)
+  plane-pixels : (l .«plane_len» % l .bytes ≡ 0) × (l .«plane_len» / l .bytes ≡ l .w * l .h)
   plane-pixels =
       (ap (λ (n : ℕ). n % l .bytes) plane ∙ mul-mod-left (l .w * l .h) (l .bytes), ap (λ (n : ℕ). n / l .bytes) plane ∙ rw add-zero at (group-of (l .w * l .h) (l .bytes) {b = 0} bytes-some))
 
@@ -85,7 +70,7 @@ module _ (l : RasterLayout) (s : Sound (recordFaults l)) (narrow : eqb (l .bytes
             let here : placeIndex l (c * l .«plane_len» + j) ≡ j * l .ch + c = place-of j h ∙ rw one (rw (mul-one (l .ch), div-one j) (omega arith)) in
             rw (here, item-of j (l .ch) channel)
 
-    pub plane-byte : (j : ℕ) → j < l .«plane_len» → written l picture (c * l .«plane_len» + j) ≡ flipped (turnsOver l c) (channelAt picture (c * l .bytes) (l .ch * l .bytes) (l .bytes) (l .le) j)
+    plane-byte : (j : ℕ) → j < l .«plane_len» → written l picture (c * l .«plane_len» + j) ≡ flipped (turnsOver l c) (channelAt picture (c * l .bytes) (l .ch * l .bytes) (l .bytes) (l .le) j)
     unfolding written
     plane-byte j h =
         passed _ _ (separated .1)

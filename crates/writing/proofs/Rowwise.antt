@@ -27,15 +27,9 @@ use Rattle.pixels.specs.Planes.{placeIndex, flips, bilevelBit, bilevelPlane, wr
 use Rattle.pixels.proofs.Places.{group-of, item-of, together-is, together-place}
 use Rattle.pixels.proofs.Undo.{picked, passed, bilevel-scratch}
 use Rattle.packed.specs.Rows.{eighths, packedAt, packFaults, PackRow}
-use Rattle.writing.specs.Parts.{planar, turnsOver, OneOrTwo, rowBytes, planeRow, PlainFits, PlainRow, RowOf, rowAt, RowWritten, Together, WrittenInto}
-use Rattle.writing.proofs.Planewise.{one-or-two, turned-in}
-
--- a byte of a word is a byte of whatever the word is in
-turned-below : (bytes : ℕ) → OneOrTwo bytes → (le : Bool) (n j : ℕ) → n % bytes ≡ 0 → j < n → turned bytes le j < n
-unfolding turned
-turned-below bytes (inl e) le n j whole h = rw e h
-turned-below bytes (inr e) true n j whole h = let even : n % 2 ≡ 0 = rw e at whole in rw e (omega arith)
-turned-below bytes (inr e) false n j whole h = rw e h
+use Rattle.pixels.specs.Render.{OneOrTwo}
+use Rattle.writing.specs.Parts.{planar, turnsOver, rowBytes, planeRow, PlainFits, PlainRow, RowOf, rowAt, RowWritten, Together, WrittenInto}
+use Rattle.pixels.proofs.Turned.{one-or-two, turned-in, turned-below}
 
 -- a row has whole words and whole pixels
 row-words : (l : RasterLayout) → rowBytes l % l .bytes ≡ 0
@@ -70,21 +64,21 @@ module _ (l : RasterLayout) (s : Sound (recordFaults l)) (bare : l .palette ≡ 
     one : ((l .ch ≡ 1) × (l .bytes ≡ 1)) × (l .alpha ≡ 0)
     one = bilevel (record-accepted l s) bare eight
 
-    pub bilevel-row : (rowBytes l ≡ l .w) × (planeRow l ≡ l .«encoded_width»)
+    bilevel-row : (rowBytes l ≡ l .w) × (planeRow l ≡ l .«encoded_width»)
     bilevel-row = (rw (one .0 .0, one .0 .1) (mul-one (l .w)), rw (place-wide, one .0 .0, one .0 .1) (mul-one (l .«encoded_width»)))
 
-    pub bilevel-eighths : l .«encoded_width» ≡ eighths (l .w)
+    bilevel-eighths : l .«encoded_width» ≡ eighths (l .w)
     unfolding encodedWidth
     bilevel-eighths = rw eight at (record-agreed l s .0 .0 .0 .0 .0 .0) ∙ omega (arith, record-accepted l s .wide)
 
-  pub plain-row-same : packed l ≡ false → planeRow l ≡ rowBytes l
+  plain-row-same : packed l ≡ false → planeRow l ≡ rowBytes l
   plain-row-same plain = rw (place-wide, row-is l s plain)
 
   -- the lengths by rows
-  pub output-rows : l .«output_len» ≡ l .h * rowBytes l
+  output-rows : l .«output_len» ≡ l .h * rowBytes l
   output-rows = output-is l s ∙ ap (λ (n : ℕ). n * (l .ch * l .bytes)) (mul-comm (l .w) (l .h)) ∙ mul-assoc (l .h) (l .w) (l .ch * l .bytes)
 
-  pub scratch-rows : l .«scratch_len» ≡ l .h * planeRow l
+  scratch-rows : l .«scratch_len» ≡ l .h * planeRow l
   scratch-rows = by shape
     where
       by : (l .slots ≡ 8) ⊎ ((packed l ≡ false) × (l .separate ≡ false)) → l .«scratch_len» ≡ l .h * planeRow l
@@ -178,7 +172,7 @@ module _ (l : RasterLayout) (s : Sound (recordFaults l)) (bare : l .palette ≡ 
 
   -- whichever it is
   module _ (narrow : eqb (l .bytes) 8 ≡ false) where
-    pub row-byte : (picture : List ℕ) (y : ℕ) → y * rowBytes l + rowBytes l ≤ length picture → (j : ℕ) → j < planeRow l → rowAt l (part (y * rowBytes l) (y * rowBytes l + rowBytes l) picture) j ≡ written l picture (y * planeRow l + j)
+    row-byte : (picture : List ℕ) (y : ℕ) → y * rowBytes l + rowBytes l ≤ length picture → (j : ℕ) → j < planeRow l → rowAt l (part (y * rowBytes l) (y * rowBytes l + rowBytes l) picture) j ≡ written l picture (y * planeRow l + j)
     row-byte picture y inside j h = by shape
       where
         by : (l .slots ≡ 8) ⊎ ((packed l ≡ false) × (l .separate ≡ false)) → rowAt l (part (y * rowBytes l) (y * rowBytes l + rowBytes l) picture) j ≡ written l picture (y * planeRow l + j)

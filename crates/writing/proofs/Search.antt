@@ -12,7 +12,7 @@ use lib.Dec.{eqb}
 use Rattle.pixels.specs.Planes.{twoLevels}
 
 -- one of the two levels
-abbrev pub level : ℕ → Bool
+abbrev level : ℕ → Bool
 level v = eqb v 0 || eqb v 255
 
 -- the bytes before column x of row y, all of them 0 or 255

@@ -1,17 +1,18 @@
--- What the private functions need and do: the refusals past the record's, rows of one plane, and planes one after another. Assumes nothing.
+-- What the private functions need and do: the checks, planes one after another, and rows where the planes are one. Assumes nothing.
 use Prim.Native.Nat.{ℕ, _+_, _-_, _*_, _/_, _%_, _≤_, _<_}
 use mathlib.Core.Path.{_≡_}
 use mathlib.Core.Bool.{Bool, true, false, not, _&&_, _||_}
-use mathlib.Core.List.{List, [], _∷_, _++_}
+use mathlib.Core.List.{List}
 use mathlib.Core.Logic.{_⊎_}
 use lib.ListN.{length, getD}
-use lib.Dec.{eqb, ltb}
-use Rattle.answer.specs.Outcome.{Fault, Sound, unless, pick, unsupported, invalid, truncated, outputTooSmall, doneOutcome}
+use lib.Dec.{eqb}
+use Rattle.answer.specs.Outcome.{Sound, unless, pick, doneOutcome}
 use Rattle.answer.specs.Table.{table, filled}
 use Rattle.answer.specs.declared.Done.{Done}
 use Rattle.layout.specs.declared.RasterLayout.{RasterLayout}
 use Rattle.layout.specs.Layout.{recordFaults, turned}
 use Rattle.pixels.specs.Render.{flipped}
+use Rattle.pixels.specs.Render.{OneOrTwo}
 use Rattle.pixels.specs.Planes.{writeFaults, written}
 use Rattle.packed.specs.Rows.{packedAt}
 
@@ -38,10 +39,7 @@ planar l = l .separate && not (eqb (l .slots) 8)
 abbrev pub turnsOver : RasterLayout → ℕ → Bool
 turnsOver l c = l .white && (eqb (l .alpha) 0 || not (eqb c (l .ch - 1)))
 
--- bytes of one channel of the pixels of a picture, its first byte at `first`
-abbrev pub OneOrTwo : ℕ → Type 0
-OneOrTwo bytes = (bytes ≡ 1) ⊎ (bytes ≡ 2)
-
+-- byte j of one channel of the pixels of a picture, whose first byte stands at `first`
 abbrev pub channelAt : List ℕ → ℕ → ℕ → ℕ → Bool → ℕ → ℕ
 channelAt picture first stride bytes le j = getD picture (first + j / bytes * stride + turned bytes le (j % bytes)) 0
 
@@ -77,6 +75,7 @@ rowBytes l = l .w * (l .ch * l .bytes)
 abbrev pub planeRow : RasterLayout → ℕ
 planeRow l = l .«encoded_width» * l .«plane_channels»
 
+-- pixels whose bytes stand together, turned over by white
 abbrev pub TurnedOver : RasterLayout → List ℕ → List ℕ → Type 0
 TurnedOver l old new = new ≡ table (length old) (λ j. flipped (turnsOver l (j % l .ch)) (getD old j 0))
 

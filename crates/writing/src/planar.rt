@@ -3,7 +3,8 @@ use layout::RasterLayout;
 ghost use mathlib.Core.Path.{_≡_};
 ghost use Prim.Native.Nat.{_<_};
 ghost use Rattle.answer.specs.Outcome.{pick};
-ghost use Rattle.writing.specs.Parts.{turnsOver, OneOrTwo, ChannelFits, ChannelInto, PlaneOf, PlaneWritten, Apart, WrittenInto};
+ghost use Rattle.pixels.specs.Render.{OneOrTwo};
+ghost use Rattle.writing.specs.Parts.{turnsOver, ChannelFits, ChannelInto, PlaneOf, PlaneWritten, Apart, WrittenInto};
 
 // One channel of every pixel: a byte of each.
 fn channel1(picture: &[u8], first: usize, stride: usize, le: bool, out: &mut [u8])
@@ -19,19 +20,12 @@ fn channel1(picture: &[u8], first: usize, stride: usize, le: bool, out: &mut [u8
     }
 }
 
-// Where the more significant byte of a stored word stands.
-fn high(le: bool) -> usize
-    ensures { λ r. ⌜ r ≡ pick le 1 0 ⌝ }
-{
-    if le { 1 } else { 0 }
-}
-
 // The same of two bytes, of which the picture has the more significant one first.
 fn channel2(picture: &[u8], first: usize, stride: usize, le: bool, out: &mut [u8])
     requires { ⌜ ChannelFits (now picture) first stride 2 (now out) ⌝ }
     ensures { λ r. ⌜ ChannelInto (now (picture .entry)) first stride 2 le (now (out .entry)) (now (out .exit)) ⌝ }
 {
-    let high = high(le);
+    let high = pixels::high(le);
     let mut from = first;
     let mut at: usize = 0;
     while at < out.len() {

@@ -11,7 +11,8 @@ use Rattle.answer.proofs.Promised.{refuses, finishes}
 use Rattle.words.specs.Word.{Bytes}
 use Rattle.layout.specs.Layout.{oneTwoEight}
 use Rattle.layout.proofs.Steps.{passed, stopped}
-use Rattle.packed.specs.Rows.{paletteAt, paletteFaults, high, PaintFits}
+use Rattle.pixels.specs.Render.{highByte}
+use Rattle.packed.specs.Rows.{paletteAt, paletteFaults, PaintFits}
 use Rattle.packed.proofs.Painting.{colours-few, paint-fits, palette-filled}
 use Rattle.packed.proofs.palette_row.Statement.{statement}
 use Rattle.packed.proofs.palette_row.Tie as tie
@@ -29,7 +30,7 @@ enum-told c = search needs
 checked : (c : tie.After-enum-told) → let args = c .before .before .before .before .before .before .args in Sound (paletteFaults (length (now (args .file))) (args .map) (args .slots) (length (now (args .raw))) (length (now (args .out))))
 checked c = passed _ (c .before .before .check-palette .result) (c .before .before .check-palette .ensures) (c .enum-told .given .1)
 
-fits : (c : tie.After-enum-told) → let args = c .before .before .before .before .before .before .args in (oneTwoEight (args .slots) ≡ true) × PaintFits (now (args .file)) (args .map + high (args .le)) (args .slots) (now (args .raw)) (now (args .out))
+fits : (c : tie.After-enum-told) → let args = c .before .before .before .before .before .before .args in (oneTwoEight (args .slots) ≡ true) × PaintFits (now (args .file)) (args .map + highByte (args .le)) (args .slots) (now (args .raw)) (now (args .out))
 fits c = let args = c .before .before .before .before .before .before .args in paint-fits (now (args .file)) (args .map) (args .slots) (args .le) (now (args .raw)) (now (args .out)) (checked c)
 
 high-requires : tie.Need-high-requires

@@ -1,7 +1,6 @@
 -- `writing::check_write` meets its contract: the record's refusal, then the others. Assumes nothing.
 use borrow.Author.Needs.{needs}
 use denote.Ref.{now}
-use Rattle.answer.specs.Outcome.{Sound}
 use Rattle.answer.proofs.Promised.{refusing, first-more}
 use Rattle.layout.specs.Layout.{recordFaults}
 use Rattle.layout.proofs.Steps.{passed, stopped}

@@ -3,7 +3,7 @@ use borrow.Author.Needs.{needs}
 use Prim.Native.Nat.{ℕ}
 use mathlib.Core.Path.{_≡_}
 use mathlib.Core.Logic.{inl, inr}
-use Rattle.rendering.specs.Rows.{OneOrTwo}
+use Rattle.pixels.specs.Render.{OneOrTwo}
 use Rattle.rendering.proofs.gather.pixel.Statement.{statement}
 use Rattle.rendering.proofs.gather.pixel.Tie as tie
 

@@ -5,7 +5,7 @@ use Prim.Native.Nat.{_+_, _-_, _*_, _≤_}
 use mathlib.Core.Path.{_≡_}
 use mathlib.Core.Bool.{Bool, true, false}
 use lib.ListN.{length-set}
-use Rattle.answer.specs.Outcome.{pick}
+use Rattle.pixels.specs.Render.{highByte}
 use Rattle.rendering.proofs.Gathering.{Channelwise, channels-none, channel-room, channel-two, channels-ended}
 use Rattle.rendering.proofs.gather.pixel2.Statement.{statement}
 use Rattle.rendering.proofs.gather.pixel2.Tie as tie
@@ -23,7 +23,7 @@ high-requires c κs = search needs
 high-small : (c : tie.After-high Inv-loop μ-loop) → c .high .result ≤ 1
 high-small c = rw (c .high .ensures) (by (c .before .before .before .args .le))
   where
-    by : (b : Bool) → pick b 1 0 ≤ 1
+    by : (b : Bool) → highByte b ≤ 1
     by true = omega arith
     by false = omega arith
 

@@ -3,7 +3,7 @@ use borrow.Author.Needs.{needs}
 use Prim.Native.Nat.{ℕ}
 use mathlib.Core.Path.{_≡_}
 use mathlib.Core.Logic.{inl, inr}
-use Rattle.writing.specs.Parts.{OneOrTwo}
+use Rattle.pixels.specs.Render.{OneOrTwo}
 use Rattle.writing.proofs.planar.channel.Statement.{statement}
 use Rattle.writing.proofs.planar.channel.Tie as tie
 

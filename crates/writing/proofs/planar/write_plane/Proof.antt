@@ -5,7 +5,8 @@ use Prim.Native.Nat.{_*_}
 use mathlib.Core.Path.{sym, _∙_}
 use denote.Ref.{now}
 use Rattle.writing.specs.Parts.{ChannelFits}
-use Rattle.writing.proofs.Planewise.{one-or-two, channel-fits, plane-kept, plane-over}
+use Rattle.writing.proofs.Planewise.{channel-fits, plane-kept, plane-over}
+use Rattle.pixels.proofs.Turned.{one-or-two}
 use Rattle.writing.proofs.planar.write_plane.Statement.{statement}
 use Rattle.writing.proofs.planar.write_plane.Tie as tie
 
