@@ -1,21 +1,20 @@
 -- What is rendered depends on the planes' own bytes alone, and what is written on the picture's own. Assumes nothing.
 use Prim.Native.Nat.{ℕ, _+_, _-_, _*_, _/_, _%_, _≤_, _<_}
-use mathlib.Core.Path.{_≡_, refl, sym, ap, _∙_}
-use mathlib.Core.Bool.{Bool, true, false, not, _&&_}
+use mathlib.Core.Path.{_≡_, refl, ap, _∙_}
+use mathlib.Core.Bool.{Bool, true, false}
 use mathlib.Core.List.{List}
-use native.Mathlib.Nat.{add-mul, one-mul, mul-one, div-add-mod', div-lt-iff-lt-mul, mul-le-mul-right, mod-lt}
+use native.Mathlib.Nat.{add-mul, one-mul, mul-one, div-add-mod', div-lt-iff-lt-mul, mul-le-mul-right}
 use native.Mathlib.Omega.{arith}
 use borrow.Author.Tests.{eqb-true, eqb-false, ltb-true}
 use lib.ListN.{getD}
 use lib.Dec.{eqb, ltb}
 use Rattle.answer.specs.Outcome.{Sound, pick}
-use Rattle.words.specs.Digits.{value}
 use Rattle.words.proofs.Digits.{value-same}
 use Rattle.layout.specs.declared.RasterLayout.{RasterLayout}
 use Rattle.layout.specs.Layout.{recordFaults, packed}
 use Rattle.layout.proofs.Whole.{record-accepted}
 use Rattle.layout.proofs.Placed.{grouped, output-is, row-within, source-below}
-use Rattle.pixels.specs.Render.{flipped, source, straightColour, mapByte, paletteIndex, bilevelByte, lastChannel, plainByte, converted}
+use Rattle.pixels.specs.Render.{flipped, source, plainByte, converted}
 use Rattle.pixels.specs.Planes.{placeIndex, flips, bilevelBit, column, bilevelPlane, written}
 use Rattle.pixels.proofs.Places.{source-place}
 use Rattle.pixels.proofs.Undo.{bilevel-output, bilevel-scratch}

@@ -1,7 +1,7 @@
 -- The two calls undo each other: rendering what was written gives the picture, and writing what was rendered gives the planes, but for bilevel padding
 -- bits, which become 0. Assumes nothing.
 use Prim.Native.Nat.{ℕ, _≤_, _<_}
-use mathlib.Core.Path.{_≡_, refl, sym, ap, _∙_}
+use mathlib.Core.Path.{_≡_, sym, ap, _∙_}
 use mathlib.Core.Bool.{false, not, _&&_}
 use mathlib.Core.List.{List}
 use native.Mathlib.Omega.{arith}

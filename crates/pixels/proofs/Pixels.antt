@@ -1,13 +1,13 @@
 -- The loop over pixels whose last byte is their alpha: its invariant, how a pixel keeps it, and what it comes to. Assumes nothing.
 use Prim.Native.Nat.{ℕ, _+_, _-_, _%_, _≤_, _<_}
-use mathlib.Core.Path.{_≡_, refl, sym, ap, _∙_}
+use mathlib.Core.Path.{_≡_, refl, ap, _∙_}
 use mathlib.Core.Bool.{Bool}
 use mathlib.Core.List.{List}
 use native.Mathlib.Nat.{zero-mod, add-mod-right}
 use native.Mathlib.Omega.{arith}
 use borrow.Author.Tests.{eq-eqb, ne-eqb}
 use lib.ListN.{length, getD}
-use Rattle.answer.specs.Table.{filled, stores}
+use Rattle.answer.specs.Table.{filled}
 use Rattle.answer.proofs.Filling.{length-filled, filled-keep, filled-rest, stores-filled}
 use Rattle.swaps.proofs.Mirror.{group-room, into-group}
 use Rattle.pixels.specs.Render.{straightColour}

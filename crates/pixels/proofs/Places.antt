@@ -1,6 +1,6 @@
 -- Where a byte of the picture stands in the planes and which byte of the picture a place of the planes takes: each undoes the other, where a place
 -- holds one byte. Assumes nothing.
-use Prim.Native.Nat.{ℕ, zero, suc, _+_, _-_, _*_, _/_, _%_, _≤_, _<_}
+use Prim.Native.Nat.{ℕ, zero, suc, _+_, _-_, _*_, _/_, _%_, _<_}
 use mathlib.Core.Path.{_≡_, refl, sym, ap, _∙_}
 use mathlib.Core.Bool.{Bool, true, false, _&&_}
 use native.Mathlib.Nat.{mul-comm, mul-zero, mul-one, add-assoc, add-zero, div-add-mod', div-eq-of-lt, mod-eq-of-lt, mod-lt, mul-add-div-right, mul-add-mod-self-right, div-lt-iff-lt-mul}
@@ -9,7 +9,6 @@ use lib.Dec.{eqb}
 use Rattle.answer.specs.Outcome.{Sound, pick}
 use Rattle.layout.specs.declared.RasterLayout.{RasterLayout}
 use Rattle.layout.specs.Layout.{given, encodedWidth, planeChannels, planes, planeLength, scratchLength, recordFaults, packed, turned, plainIndex, sourceIndex}
-use Rattle.layout.proofs.Says.{up, equal, both}
 use Rattle.layout.proofs.Accepted.{up-to-eight}
 use Rattle.layout.proofs.Whole.{record-accepted, record-agreed}
 use Rattle.layout.proofs.Placed.{grouped, stride-some, output-is, scratch-is, plain-one, row-is, turned-within}

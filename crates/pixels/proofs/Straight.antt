@@ -1,11 +1,9 @@
 -- The alpha rule's laws: 0 beside alpha 0, else the quotient, held at 255. Assumes nothing.
-use mathlib.Core.Path.{_≡_, sym, ap, _∙_}
-use mathlib.Core.Bool.{false}
+use mathlib.Core.Path.{_≡_}
 use Prim.Native.Nat.{ℕ, _*_, _/_, _≤_, _<_}
 use native.Mathlib.Nat.{min-eq-left, min-eq-right}
 use native.Mathlib.Omega.{arith}
 use borrow.Author.Tests.{eq-eqb, ne-eqb}
-use lib.Dec.{eqb}
 use Rattle.pixels.specs.Render.{straightened}
 
 pub straight-none : (u a : ℕ) → a ≡ 0 → straightened u a ≡ 0

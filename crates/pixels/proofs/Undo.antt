@@ -1,30 +1,30 @@
 -- Rendering what was written gives the picture, and writing what was rendered gives the planes, but for bilevel padding bits, which become 0.
 -- Byte by byte, over every layout that both serve. Assumes nothing.
-use Prim.Native.Nat.{ℕ, zero, suc, _+_, _-_, _*_, _/_, _%_, _^_, _≤_, _<_}
+use Prim.Native.Nat.{ℕ, zero, suc, _+_, _-_, _*_, _/_, _%_, _^_, _<_}
 use mathlib.Core.Path.{_≡_, refl, sym, ap, _∙_}
 use mathlib.Core.Bool.{Bool, true, false, not, _&&_, _||_}
 use mathlib.Core.List.{List}
 use mathlib.Core.Logic.{_⊎_, inl, inr}
 use native.Mathlib.Nat.{div-one, mod-lt, div-add-mod', div-lt-iff-lt-mul, mul-one, mul-comm}
 use native.Mathlib.Omega.{arith}
-use borrow.Author.Tests.{eq-eqb, ne-eqb, eqb-true, lt-ltb, ltb-true, not-false}
+use borrow.Author.Tests.{eq-eqb, eqb-true, lt-ltb, ltb-true, not-false}
 use native.Mathlib.Decide.{decLt}
 use lib.ListN.{getD}
 use lib.Dec.{eqb, ltb}
 use Rattle.answer.specs.Outcome.{Sound, pick}
 use Rattle.answer.specs.Table.{table}
 use Rattle.answer.proofs.Filling.{table-at}
-use Rattle.words.specs.Digits.{digit, value}
+use Rattle.words.specs.Digits.{digit}
 use Rattle.words.specs.Word.{Bytes}
-use Rattle.words.proofs.Digits.{digit-below, digit-value, value-same}
+use Rattle.words.proofs.Digits.{digit-value, value-same}
 use Rattle.strips.specs.Promises.{apart}
 use Rattle.layout.specs.declared.RasterLayout.{RasterLayout}
-use Rattle.layout.specs.Layout.{given, recordFaults, packed, packedIndex, sourceIndex}
+use Rattle.layout.specs.Layout.{recordFaults, packed, packedIndex, sourceIndex}
 use Rattle.layout.proofs.Says.{Says, up, equal, both, either}
 use Rattle.layout.proofs.Accepted.{bilevel}
 use Rattle.layout.proofs.Whole.{record-accepted}
 use Rattle.layout.proofs.Placed.{grouped, output-is, scratch-is, packed-one, plain-one, row-within, source-below}
-use Rattle.pixels.specs.Render.{flipped, straightColour, source, bilevelByte, lastChannel, plainByte, converted}
+use Rattle.pixels.specs.Render.{flipped, source, bilevelByte, lastChannel, plainByte, converted}
 use Rattle.pixels.specs.Planes.{placeIndex, flips, bilevelBit, column, bilevelPlane, written, unpadded, twoLevels}
 use Rattle.pixels.proofs.Places.{group-of, item-of, place-source, source-place}
 

@@ -1,7 +1,7 @@
 use answer::Done;
 use answer::Refusal;
 ghost use mathlib.Core.Path.{_≡_};
-ghost use Prim.Native.Nat.{_+_, _≤_, _<_};
+ghost use Prim.Native.Nat.{_+_, _<_};
 ghost use lib.ListN.{length};
 ghost use Rattle.pixels.specs.Render.{flipped, highByte, straightened, straightColour};
 ghost use Rattle.pixels.specs.Finish.{Inverted, Straightened, PixelStraightened, PixelsStraightened, WholePixels};

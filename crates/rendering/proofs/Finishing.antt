@@ -8,16 +8,14 @@ use native.Mathlib.Omega.{arith}
 use borrow.Author.Tests.{eq-eqb, ne-eqb, eqb-false}
 use lib.ListN.{length, getD}
 use lib.Dec.{eqb}
-use Rattle.answer.specs.Outcome.{pick, next, none, Sound}
-use Rattle.answer.specs.Table.{table, filled}
+use Rattle.answer.specs.Outcome.{pick, next, none}
+use Rattle.answer.specs.Table.{table}
 use Rattle.answer.specs.declared.Done.{Done}
 use Rattle.answer.proofs.Promised.{finished}
 use Rattle.answer.proofs.Filling.{length-table, table-at, table-same, table-self, filled-all}
-use Rattle.swaps.proofs.Mirror.{group-room}
 use Rattle.layout.specs.declared.RasterLayout.{RasterLayout}
-use Rattle.layout.specs.Layout.{given}
 use Rattle.layout.proofs.Whole.{record-accepted}
-use Rattle.pixels.specs.Render.{flipped, straightColour, source, lastChannel, plainByte}
+use Rattle.pixels.specs.Render.{flipped, straightColour, source, plainByte}
 use Rattle.pixels.specs.Finish.{Inverted, straightAt, straightFaults, Straightened}
 use Rattle.rendering.specs.Rows.{rowBytes, PlainRow, WholeRow, finishedAt, Finished, Gathered, PlainRendered}
 

@@ -1,15 +1,15 @@
 -- A row of pixels whose channels stand in planes of their own: the loop over a pixel's channels and the loop over the pixels. Assumes nothing.
 use Prim.Native.Nat.{ℕ, zero, suc, _+_, _-_, _*_, _/_, _%_, _≤_, _<_}
 use mathlib.Core.Path.{_≡_, refl, sym, ap, _∙_}
-use mathlib.Core.Bool.{Bool, true, false, _&&_}
+use mathlib.Core.Bool.{Bool, true, false}
 use mathlib.Core.List.{List}
-use mathlib.Core.Logic.{_⊎_, inl, inr}
-use native.Mathlib.Nat.{zero-mod, zero-div, zero-mul, add-zero, add-mul, one-mul, mul-one, mul-pos, div-one, mod-one, add-mod-right, add-div-right, div-add-mod', le-div-iff-mul-le, mul-le-mul-right, mod-lt}
+use mathlib.Core.Logic.{inl, inr}
+use native.Mathlib.Nat.{zero-mod, zero-div, zero-mul, add-zero, add-mul, one-mul, mul-one, mul-pos, div-one, mod-one, add-mod-right, add-div-right, div-add-mod', le-div-iff-mul-le, mul-le-mul-right}
 use native.Mathlib.Omega.{arith}
-use lib.ListN.{length, getD, set, length-set}
+use lib.ListN.{length, getD, set}
 use lib.Dec.{eqb}
 use Rattle.answer.specs.Outcome.{pick}
-use Rattle.answer.specs.Table.{table, filled, stores}
+use Rattle.answer.specs.Table.{filled, stores}
 use Rattle.answer.proofs.Filling.{length-stores, stores-on, stores-filled, length-filled, filled-all}
 use Rattle.swaps.proofs.Mirror.{group-room}
 use Rattle.layout.specs.Layout.{turned}

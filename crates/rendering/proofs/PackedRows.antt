@@ -1,22 +1,20 @@
 -- A row of a picture whose bytes of the planes hold several samples or places of the map: where it begins in the planes, and that what `packed` makes of
 -- it is the row. Assumes nothing.
 use Prim.Native.Nat.{ℕ, _+_, _-_, _*_, _/_, _%_, _^_, _≤_, _<_}
-use mathlib.Core.Path.{_≡_, refl, sym, ap, _∙_}
-use mathlib.Core.Bool.{Bool, true, false, not}
+use mathlib.Core.Path.{_≡_, sym, ap, _∙_}
+use mathlib.Core.Bool.{true, false, not}
 use mathlib.Core.List.{List}
-use native.Mathlib.Nat.{add-mul, one-mul, mul-one, mul-comm, mul-assoc, mul-le-mul-right, mul-mod-left, mul-div-cancel, mul-add-mod-self-right, mul-add-div-right, add-div-right, div-lt-iff-lt-mul}
+use native.Mathlib.Nat.{add-mul, one-mul, mul-one, mul-comm, mul-assoc, mul-le-mul-right, mul-mod-left, mul-div-cancel, add-div-right}
 use native.Mathlib.Omega.{arith}
 use borrow.Author.Tests.{eq-eqb, le-ltb}
 use lib.ListN.{length, getD}
-use lib.Dec.{eqb}
-use Rattle.answer.specs.Outcome.{Sound, pick, next, none}
-use Rattle.answer.specs.Table.{table, filled}
+use Rattle.answer.specs.Outcome.{Sound, next, none}
 use Rattle.answer.specs.declared.Done.{Done}
 use Rattle.answer.proofs.Promised.{finished}
 use Rattle.answer.proofs.Filling.{part, length-part, part-at, table-same, filled-all}
 use Rattle.words.specs.Word.{wordAt}
 use Rattle.layout.specs.declared.RasterLayout.{RasterLayout}
-use Rattle.layout.specs.Layout.{given, byteLimit, encodedWidth, colours, packed, packedIndex, sourceIndex}
+use Rattle.layout.specs.Layout.{byteLimit, encodedWidth, colours, packed, packedIndex, sourceIndex}
 use Rattle.layout.proofs.Says.{held}
 use Rattle.layout.proofs.Accepted.{one-two-eight, up-to-eight, bilevel}
 use Rattle.layout.proofs.Whole.{record-accepted, record-agreed}
@@ -24,7 +22,7 @@ use Rattle.layout.proofs.Placed.{scratch-is, packed-one, row-within, scratch-li
 use Rattle.pixels.specs.Render.{source, slotShift, mapByte, paletteIndex, bilevelByte, converted}
 use Rattle.pixels.proofs.Places.{group-of, item-of}
 use Rattle.pixels.proofs.Undo.{picked, bilevel-converted}
-use Rattle.packed.specs.Rows.{bilevelAt, bilevelFaults, BilevelRow, coloursOf, indexAt, paletteAt, paletteFaults, PaletteRow}
+use Rattle.packed.specs.Rows.{bilevelAt, bilevelFaults, BilevelRow, coloursOf, paletteAt, paletteFaults, PaletteRow}
 use Rattle.rendering.specs.Rows.{rowBytes, RowOf, RowRendered}
 
 module _ {l : RasterLayout} {file raw : List ℕ} {y : ℕ} {out : List ℕ} (row : RowOf l file raw y out) (is : packed l ≡ true) where

@@ -8,15 +8,15 @@ use lib.Dec.{eqb, ltb}
 use Rattle.answer.specs.Outcome.{pick, Sound}
 use Rattle.layout.proofs.Says.{clash}
 use Rattle.pixels.proofs.Undo.{passed}
-use native.Mathlib.Nat.{add-mul, one-mul, zero-mul, mul-comm, mul-assoc, mul-le-mul-right, mul-pos}
+use native.Mathlib.Nat.{add-mul, one-mul, zero-mul, mul-comm, mul-assoc, mul-le-mul-right}
 use native.Mathlib.Omega.{arith}
 use lib.ListN.{length, take, drop}
 use Rattle.answer.specs.Table.{table, filled}
 use Rattle.answer.proofs.Filling.{table-same, part, length-part, part-filled, length-filled}
 use Rattle.layout.specs.declared.RasterLayout.{RasterLayout}
-use Rattle.layout.specs.Layout.{given, byteLimit, outputLength, packed, colours, recordFaults}
+use Rattle.layout.specs.Layout.{byteLimit, packed, colours, recordFaults}
 use Rattle.layout.proofs.Whole.{record-accepted, record-agreed}
-use Rattle.layout.proofs.Placed.{output-is, stride-some}
+use Rattle.layout.proofs.Placed.{output-is}
 use Rattle.pixels.specs.Render.{converted}
 use Rattle.rendering.specs.Rows.{rowBytes, PlainRow, PlainRendered, Served, RowOf, RowRendered, RowsRendered}
 

@@ -3,14 +3,14 @@ use Prim.Native.Nat.{ℕ, _+_, _-_, _*_, _/_, _%_, _≤_, _<_}
 use mathlib.Core.Path.{_≡_, refl, sym, ap, _∙_}
 use mathlib.Core.Bool.{Bool, true, false, not}
 use mathlib.Core.List.{List}
-use mathlib.Core.Logic.{_⊎_, inl, inr}
-use native.Mathlib.Nat.{add-mul, one-mul, mul-one, mul-comm, mul-assoc, add-assoc, mul-le-mul-left, mul-le-mul-right, mul-mod-left, mul-div-cancel, div-add-mod', div-lt-iff-lt-mul, mod-lt}
+use mathlib.Core.Logic.{inl, inr}
+use native.Mathlib.Nat.{add-mul, one-mul, mul-one, mul-comm, mul-assoc, mul-le-mul-left, mul-le-mul-right, mul-mod-left, mul-div-cancel, div-add-mod', div-lt-iff-lt-mul, mod-lt}
 use native.Mathlib.Omega.{arith}
-use borrow.Author.Tests.{eqb-false, eq-eqb, le-ltb}
+use borrow.Author.Tests.{eq-eqb, le-ltb}
 use native.Mathlib.Decide.{decLt}
-use lib.ListN.{length, getD, take, drop, length-take, List·getD-eq-default}
+use lib.ListN.{length, getD, drop, length-take, List·getD-eq-default}
 use Rattle.answer.specs.Outcome.{Sound, pick, next, none}
-use Rattle.answer.specs.Table.{table, filled}
+use Rattle.answer.specs.Table.{table}
 use Rattle.answer.specs.declared.Done.{Done}
 use Rattle.answer.proofs.Promised.{finished}
 use Rattle.answer.proofs.Filling.{part, length-part, part-at, table-same, filled-all}
@@ -19,14 +19,13 @@ use Rattle.words.specs.Promises.{served}
 use Rattle.strips.specs.Sample.{wordOf, storedAt}
 use Rattle.strips.specs.Promises.{apart, reorderFaults, Reordered}
 use Rattle.layout.specs.declared.RasterLayout.{RasterLayout}
-use Rattle.layout.specs.Layout.{given, byteLimit, encodedWidth, planeChannels, planes, planeLength, scratchLength, turned, sourceIndex}
+use Rattle.layout.specs.Layout.{given, byteLimit, planeChannels, planes, planeLength, scratchLength, turned, sourceIndex}
 use Rattle.layout.proofs.Whole.{record-accepted, record-agreed}
-use Rattle.layout.proofs.Placed.{grouped, stride-some, output-is, plain-one, row-is, turned-within, scratch-limited}
-use Rattle.pixels.specs.Render.{source}
+use Rattle.layout.proofs.Placed.{grouped, stride-some, plain-one, row-is, turned-within, scratch-limited}
 use Rattle.pixels.proofs.Turned.{one-or-two, turned-in, stored-turned}
-use Rattle.pixels.proofs.Places.{group-of, item-of, stride, plane-is, together-is, apart-source, together-source}
+use Rattle.pixels.proofs.Places.{stride, plane-is, together-is, apart-source, together-source}
 use Rattle.pixels.specs.Render.{OneOrTwo}
-use Rattle.rendering.specs.Rows.{rowBytes, planeRow, PlainRow, Gathered, planePlace, planesAt, PlanesFit, PlanesInto}
+use Rattle.rendering.specs.Rows.{rowBytes, planeRow, PlainRow, Gathered, planePlace, PlanesFit, PlanesInto}
 
 -- bytes of a part are bytes
 pub part-bytes : (a e : ℕ) (l : List ℕ) → Bytes l → Bytes (part a e l)

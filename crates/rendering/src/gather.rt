@@ -1,6 +1,5 @@
 // The bytes of a row in the picture's order, where each is a byte of the planes.
 use layout::RasterLayout;
-ghost use mathlib.Core.Path.{_≡_};
 ghost use Rattle.pixels.specs.Render.{OneOrTwo};
 ghost use Rattle.rendering.specs.Rows.{PlainRow, Gathered, PixelFits, PixelGathered, PlanesFit, PlanesInto};
 

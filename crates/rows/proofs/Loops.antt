@@ -10,7 +10,7 @@ use borrow.Author.Tests.{le-ltb}
 use lib.ListN.{length, getD}
 use Rattle.answer.specs.Table.{filled}
 use Rattle.answer.proofs.Filling.{length-stores, stores-filled, filled-front, filled-already}
-use Rattle.words.specs.Word.{turn, wordAt, modulus, plus, minus}
+use Rattle.words.specs.Word.{wordAt, modulus, plus, minus}
 use Rattle.words.proofs.Words.{digits-word}
 use Rattle.swaps.proofs.Mirror.{group-room}
 use Rattle.strips.specs.Sample.{alone, wordOf, sample, difference, storedAt}

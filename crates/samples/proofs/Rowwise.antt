@@ -1,9 +1,9 @@
 -- The loop over a strip's rows: its invariant, how a row keeps it, and what it comes to. Assumes nothing.
-use mathlib.Core.Path.{_≡_, refl, sym, ap, _∙_}
+use mathlib.Core.Path.{_≡_, refl, ap, _∙_}
 use mathlib.Core.Bool.{Bool, true, false}
 use mathlib.Core.List.{List, _++_}
-use Prim.Native.Nat.{ℕ, _+_, _-_, _*_, _/_, _%_, _≤_, _<_}
-use native.Mathlib.Nat.{zero-mod, add-mod-right, mod-eq-of-lt}
+use Prim.Native.Nat.{ℕ, _+_, _-_, _%_, _≤_, _<_}
+use native.Mathlib.Nat.{zero-mod, add-mod-right}
 use native.Mathlib.Omega.{arith}
 use lib.ListN.{length, take, drop}
 use borrow.Author.Tests.{le-ltb}
@@ -11,12 +11,9 @@ use Rattle.answer.specs.Outcome.{next, none}
 use Rattle.answer.specs.Table.{table, filled}
 use Rattle.answer.specs.declared.Done.{Done}
 use Rattle.answer.proofs.Promised.{finished, sound-more}
-use Rattle.answer.proofs.Filling.{part, length-part, part-filled, length-filled, filled-all, filled-same, table-same}
-use Rattle.words.specs.Digits.{digit}
-use Rattle.words.specs.Word.{turn, Bytes}
-use Rattle.words.proofs.Words.{word-below}
+use Rattle.answer.proofs.Filling.{part, length-part, part-filled, length-filled, filled-all, table-same}
 use Rattle.swaps.proofs.Mirror.{group-room}
-use Rattle.strips.specs.Sample.{wordOf, Strip, strip, storedAt}
+use Rattle.strips.specs.Sample.{Strip, strip, storedAt}
 use Rattle.strips.specs.Promises.{convertFaults}
 use Rattle.strips.proofs.Strips.{good-checked, row-checked}
 use Rattle.strips.proofs.Parts.{part-samples, part-differences}

@@ -17,7 +17,6 @@ use Rattle.words.specs.Word.{Bytes}
 use Rattle.words.specs.Promises.{served}
 use Rattle.strips.specs.Sample.{wordOf, storedAt}
 use Rattle.strips.specs.Promises.{reorderFaults, Reordered}
-use Rattle.strips.proofs.Orders.{same-order, other-order}
 use Rattle.layout.specs.declared.RasterLayout.{RasterLayout}
 use Rattle.layout.specs.Layout.{turned}
 use Rattle.pixels.specs.Render.{flipped}

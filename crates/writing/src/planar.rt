@@ -2,7 +2,6 @@
 use layout::RasterLayout;
 ghost use mathlib.Core.Path.{_≡_};
 ghost use Prim.Native.Nat.{_<_};
-ghost use Rattle.answer.specs.Outcome.{pick};
 ghost use Rattle.pixels.specs.Render.{OneOrTwo};
 ghost use Rattle.writing.specs.Parts.{turnsOver, ChannelFits, ChannelInto, PlaneOf, PlaneWritten, Apart, WrittenInto};
 

@@ -2,13 +2,13 @@
 use borrow.Author.Needs.{needs}
 use native.Mathlib.Numerals.{add-one}
 use native.Mathlib.Omega.{arith}
-use Prim.Native.Nat.{ℕ, suc, _+_, _-_, _≤_}
+use Prim.Native.Nat.{ℕ, _+_, _-_, _≤_}
 use mathlib.Core.Path.{_≡_, refl, ap, _∙_}
 use mathlib.Core.List.{List}
 use lib.ListN.{length, getD, length-set}
 use denote.Ref.{now}
 use Rattle.answer.specs.Table.{stores}
-use Rattle.answer.proofs.Filling.{length-stores, stores-rest}
+use Rattle.answer.proofs.Filling.{stores-rest}
 use Rattle.pixels.specs.Render.{straightColour}
 use Rattle.pixels.proofs.straighten_pixel.Statement.{statement}
 use Rattle.pixels.proofs.straighten_pixel.Tie as tie

@@ -1,8 +1,6 @@
 -- `rendering::packed_row` meets its contract: the laws are in proofs/PackedRows.antt. Assumes nothing.
 use borrow.Author.Needs.{needs}
 use native.Mathlib.Omega.{arith}
-use mathlib.Core.Path.{_≡_}
-use mathlib.Core.Bool.{false}
 use mathlib.Core.Logic.{⊎-elim}
 use Rattle.layout.proofs.Says.{clash, up, equal, either}
 use Rattle.rendering.proofs.PackedRows.{packed-row-end, packed-limited, palette-rendered, bilevel-rendered}

@@ -1,5 +1,5 @@
 -- `words::byte_place` meets its promise: (i + 1) × width is within the length exactly if i is below length / width. Assumes nothing.
-use Prim.Native.Nat.{_+_, _*_, _/_, _≤_, _<_}
+use Prim.Native.Nat.{_+_, _*_, _≤_, _<_}
 use native.Mathlib.Nat.{div-lt-iff-lt-mul, le-div-iff-mul-le, add-mul}
 use native.Mathlib.Omega.{arith}
 use borrow.Author.Needs.{needs}

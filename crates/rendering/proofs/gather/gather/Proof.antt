@@ -3,7 +3,7 @@ use borrow.Author.Needs.{needs}
 use native.Mathlib.Omega.{arith}
 use denote.Ref.{now}
 use Rattle.words.specs.Word.{Bytes}
-use Rattle.rendering.proofs.Rowwise.{plane-rows, plane-row-end, plane-limited, planes-fit, planes-gathered, part-inside, together-gathered}
+use Rattle.rendering.proofs.Rowwise.{plane-row-end, plane-limited, planes-fit, planes-gathered, part-inside, together-gathered}
 use Rattle.rendering.proofs.gather.gather.Statement.{statement}
 use Rattle.rendering.proofs.gather.gather.Tie as tie
 

@@ -1,8 +1,7 @@
 -- `rendering::gather::pixel1` meets its contract: the invariant and its laws are in proofs/Gathering.antt. Assumes nothing.
 use borrow.Author.Needs.{needs}
 use native.Mathlib.Omega.{arith}
-use Prim.Native.Nat.{_+_, _-_, _*_}
-use mathlib.Core.Path.{_≡_}
+use Prim.Native.Nat.{_-_}
 use Rattle.rendering.proofs.Gathering.{Channelwise, channels-none, channel-room, channel-one, channels-ended}
 use Rattle.rendering.proofs.gather.pixel1.Statement.{statement}
 use Rattle.rendering.proofs.gather.pixel1.Tie as tie

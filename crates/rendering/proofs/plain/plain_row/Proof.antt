@@ -2,7 +2,6 @@
 use borrow.Author.Needs.{needs}
 use mathlib.Core.Path.{ap, _∙_}
 use lib.ListN.{length}
-use denote.Ref.{now}
 use Rattle.answer.proofs.Filling.{length-table}
 use Rattle.rendering.proofs.Finishing.{whole-row, plain-rendered}
 use Rattle.rendering.proofs.plain.plain_row.Statement.{statement}
