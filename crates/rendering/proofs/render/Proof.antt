@@ -4,6 +4,7 @@ use borrow.Author.Tests.{eq-eqb, ne-eqb, lt-ltb, le-ltb}
 use mathlib.Core.Path.{_≡_, sym, _∙_}
 use mathlib.Core.Bool.{false, _&&_}
 use Prim.Native.Nat.{_+_, _*_}
+use native.Mathlib.Omega.{arith}
 use lib.ListN.{length}
 use lib.Dec.{eqb, ltb}
 use denote.Ref.{now}
@@ -52,12 +53,12 @@ returns-2 c =
 returns-3 : tie.Need-returns-3
 returns-3 c =
     let args = c .before .before .before .before .before .before .before .before .before .before .before .before .args in
-    refuses (renderFaults (args .l) (now (args .file)) (now (args .raw)) (now (args .out))) tt _ _ (sound-then (checked (c .before .before .before .before .before .before)) (later (not-eight (c .before .before .before .before)) (later (map-found (c .before .before)) (here (lt-ltb _ _ (c .if3 .taken))))))
+    refuses (renderFaults (args .l) (now (args .file)) (now (args .raw)) (now (args .out))) tt _ _ (sound-then (checked (c .before .before .before .before .before .before)) (later (not-eight (c .before .before .before .before)) (later (map-found (c .before .before)) (here (lt-ltb (length (now (args .raw))) (args .l .«scratch_len») (omega (arith, c .if3 .taken)))))))
 
 returns-4 : tie.Need-returns-4
 returns-4 c =
     let args = c .before .before .before .before .before .before .before .before .before .before .before .before .before .before .args in
-    refuses (renderFaults (args .l) (now (args .file)) (now (args .raw)) (now (args .out))) tt _ _ (sound-then (checked (c .before .before .before .before .before .before .before .before)) (later (not-eight (c .before .before .before .before .before .before)) (later (map-found (c .before .before .before .before)) (later (le-ltb _ _ (c .before .before .if3 .left)) (here (lt-ltb _ _ (c .if4 .taken)))))))
+    refuses (renderFaults (args .l) (now (args .file)) (now (args .raw)) (now (args .out))) tt _ _ (sound-then (checked (c .before .before .before .before .before .before .before .before)) (later (not-eight (c .before .before .before .before .before .before)) (later (map-found (c .before .before .before .before)) (later (le-ltb (length (now (args .raw))) (args .l .«scratch_len») (omega (arith, c .before .before .if3 .left))) (here (lt-ltb (length (now (args .out))) (args .l .«output_len») (omega (arith, c .if4 .taken))))))))
 
 render-rows-requires : tie.Need-render-rows-requires
 render-rows-requires c κs =
@@ -66,8 +67,8 @@ render-rows-requires c κs =
       sound = checked (c .before .before .before .before .before .before .before .before .before);
       bytes = not-eight (c .before .before .before .before .before .before .before);
       map = map-inside (args .l .palette) _ _ (map-found (c .before .before .before .before .before));
-      planes = c .before .before .before .if3 .left;
-      room = c .before .if4 .left;
+      planes = omega (arith, c .before .before .before .if3 .left);
+      room = omega (arith, c .before .if4 .left);
     }
 
 returns-5 : tie.Need-returns-5
@@ -82,7 +83,7 @@ returns-6 : tie.Need-returns-6
 returns-6 c =
     let args = c .before .before .before .before .before .before .before .before .before .before .before .before .before .before .before .before .before .before .args in
     finishes (renderFaults (args .l) (now (args .file)) (now (args .raw)) (now (args .out))) tt (args .l .«output_len») (converted (args .l) (now (args .file)) (now (args .raw))) _ _
-    (sound-more (checked (c .before .before .before .before .before .before .before .before .before .before .before .before)) (next (not-eight (c .before .before .before .before .before .before .before .before .before .before)) (next (map-found (c .before .before .before .before .before .before .before .before)) (next (le-ltb _ _ (c .before .before .before .before .before .before .if3 .left)) (next (le-ltb _ _ (c .before .before .before .before .if4 .left)) none))))) (c .before .before .render-rows .ensures)
+    (sound-more (checked (c .before .before .before .before .before .before .before .before .before .before .before .before)) (next (not-eight (c .before .before .before .before .before .before .before .before .before .before)) (next (map-found (c .before .before .before .before .before .before .before .before)) (next (le-ltb (length (now (args .raw))) (args .l .«scratch_len») (omega (arith, c .before .before .before .before .before .before .if3 .left))) (next (le-ltb (length (now (args .out))) (args .l .«output_len») (omega (arith, c .before .before .before .before .if4 .left))) none))))) (c .before .before .render-rows .ensures)
 
 pub render-spec : {M : Type 1} → statement M
 render-spec =

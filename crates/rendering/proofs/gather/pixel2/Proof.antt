@@ -59,7 +59,7 @@ add-out-2 c =
     omega (arith, room .0 .0, room .0 .1, room .1, at .loop .inv .1, high-small (at .before), start .good)
 
 sub-out : tie.Need-sub-out Inv-loop μ-loop
-sub-out c = high-small (c .before .before .before)
+sub-out c = omega (arith, high-small (c .before .before .before))
 
 shared-slice-read-out-2 : tie.Need-shared-slice-read-out-2 Inv-loop μ-loop
 shared-slice-read-out-2 c =
