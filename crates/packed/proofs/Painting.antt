@@ -26,16 +26,16 @@ colours-few slots = by (eqb slots 8) (eqb slots 2)
     by false true = omega arith
     by false false = omega arith
 
-high-few : (le : Bool) → highByte le ≤ 1
-high-few true = omega arith
-high-few false = omega arith
+pub high-few : (le : Bool) {n : ℕ} → n ≡ highByte le → n ≤ 1
+high-few true e = omega arith
+high-few false e = omega arith
 
 -- with no fault all that is read is there
-pub paint-fits : (file : List ℕ) (map slots : ℕ) (le : Bool) (raw out : List ℕ) → Sound (paletteFaults (length file) map slots (length raw) (length out)) → (oneTwoEight slots ≡ true) × PaintFits file (map + highByte le) slots raw out
-paint-fits file map slots le raw out (next served (next groups (next within (next bytes none)))) = (
+pub paint-fits : (file : List ℕ) (map slots first : ℕ) (raw out : List ℕ) → first ≤ 1 → Sound (paletteFaults (length file) map slots (length raw) (length out)) → (oneTwoEight slots ≡ true) × PaintFits file (map + first) slots raw out
+paint-fits file map slots first raw out small (next served (next groups (next within (next bytes none)))) = (
   not-false (oneTwoEight slots) served,
   record {
-    map = omega (arith, ltb-false (length file) (map + 6 * coloursOf slots) within, high-few le);
+    map = omega (arith, ltb-false (length file) (map + 6 * coloursOf slots) within, small);
     whole = eqb-true (length out % 3) 0 (not-false (eqb (length out % 3) 0) groups);
     bytes = ltb-false (length raw) ((length out / 3 + slots - 1) / slots) bytes;
   },

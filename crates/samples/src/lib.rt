@@ -24,16 +24,8 @@ fn transform_rows(
     while at < raw.len() {
         let end = at + row_bytes;
         let row = &raw[at..end];
-        rows::transform_row(
-            row,
-            channels,
-            width,
-            le,
-            predict,
-            out_le,
-            forward,
-            &mut out[at..end],
-        );
+        let to = &mut out[at..end];
+        rows::transform_row(row, channels, width, le, predict, out_le, forward, to);
         at = end;
     }
 }

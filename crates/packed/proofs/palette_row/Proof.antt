@@ -1,6 +1,6 @@
 -- `packed::palette_row` meets its promise: the check's faults, then each column painted. Assumes nothing.
 use borrow.Author.Needs.{needs}
-use Prim.Native.Nat.{_+_}
+use Prim.Native.Nat.{ℕ, _+_, _≤_}
 use mathlib.Core.Path.{_≡_}
 use mathlib.Core.Bool.{true}
 use native.Mathlib.Omega.{arith}
@@ -13,7 +13,7 @@ use Rattle.layout.specs.Layout.{oneTwoEight}
 use Rattle.layout.proofs.Steps.{passed, stopped}
 use Rattle.pixels.specs.Render.{highByte}
 use Rattle.packed.specs.Rows.{paletteAt, paletteFaults, PaintFits}
-use Rattle.packed.proofs.Painting.{colours-few, paint-fits, palette-filled}
+use Rattle.packed.proofs.Painting.{high-few, colours-few, paint-fits, palette-filled}
 use Rattle.packed.proofs.palette_row.Statement.{statement}
 use Rattle.packed.proofs.palette_row.Tie as tie
 
@@ -30,8 +30,8 @@ enum-told c = search needs
 checked : (c : tie.After-enum-told) → let args = c .before .before .before .before .before .before .args in Sound (paletteFaults (length (now (args .file))) (args .map) (args .slots) (length (now (args .raw))) (length (now (args .out))))
 checked c = passed _ (c .before .before .check-palette .result) (c .before .before .check-palette .ensures) (c .enum-told .given .1)
 
-fits : (c : tie.After-enum-told) → let args = c .before .before .before .before .before .before .args in (oneTwoEight (args .slots) ≡ true) × PaintFits (now (args .file)) (args .map + highByte (args .le)) (args .slots) (now (args .raw)) (now (args .out))
-fits c = let args = c .before .before .before .before .before .before .args in paint-fits (now (args .file)) (args .map) (args .slots) (args .le) (now (args .raw)) (now (args .out)) (checked c)
+fits : (c : tie.After-enum-told) (first : ℕ) → first ≤ 1 → let args = c .before .before .before .before .before .before .args in (oneTwoEight (args .slots) ≡ true) × PaintFits (now (args .file)) (args .map + first) (args .slots) (now (args .raw)) (now (args .out))
+fits c first small = let args = c .before .before .before .before .before .before .args in paint-fits (now (args .file)) (args .map) (args .slots) first (now (args .raw)) (now (args .out)) small (checked c)
 
 high-requires : tie.Need-high-requires
 high-requires c κs = search needs
@@ -39,10 +39,10 @@ high-requires c κs = search needs
 add-paint-row : tie.Need-add-paint-row
 add-paint-row c =
     let args = c .before .before .before .before .before .before .before .args in
-    omega (arith, c .high .ensures, fits (c .before) .1 .map, colours-few (args .slots))
+    omega (arith, fits (c .before) (c .high .result) (high-few (args .le) (c .high .ensures)) .1 .map, colours-few (args .slots))
 
 paint-row-requires : tie.Need-paint-row-requires
-paint-row-requires c κs = rw (c .before .high .ensures) (fits (c .before .before))
+paint-row-requires c κs = fits (c .before .before) (c .before .high .result) (high-few (c .before .before .before .before .before .before .before .before .args .le) (c .before .high .ensures))
 
 returns : tie.Need-returns
 returns c =

@@ -35,14 +35,14 @@ part-row-end c =
     let start = at .before .before .before in
     row-room (start .pre) (at .loop .inv) (omega (arith, c .loop-test .taken, at .loop .inv .inside))
 
-sub-transform-row : tie.Need-sub-transform-row Inv-loop μ-loop
-sub-transform-row c = omega arith
+sub-to : tie.Need-sub-to Inv-loop μ-loop
+sub-to c = omega arith
 
-part-transform-row-start : tie.Need-part-transform-row-start Inv-loop μ-loop
-part-transform-row-start c = omega arith
+part-to-start : tie.Need-part-to-start Inv-loop μ-loop
+part-to-start c = omega arith
 
-part-transform-row-end : tie.Need-part-transform-row-end Inv-loop μ-loop
-part-transform-row-end c =
+part-to-end : tie.Need-part-to-end Inv-loop μ-loop
+part-to-end c =
     let at = c .before .before in
     let start = at .before .before .before in
     omega (arith, row-room (start .pre) (at .loop .inv) (omega (arith, c .before .loop-test .taken, at .loop .inv .inside)), at .loop .inv .same, start .pre .room)
@@ -82,9 +82,9 @@ transform-rows-spec =
     sub-row
     part-row-start
     part-row-end
-    sub-transform-row
-    part-transform-row-start
-    part-transform-row-end
+    sub-to
+    part-to-start
+    part-to-end
     transform-row-requires
     loop-less
     loop-again
