@@ -1,5 +1,8 @@
 // Runs document 01's cases, the lines of `stdin`, over the library; prints those that differ, and then one line of counts.
+mod damage_cases;
+mod layout_cases;
 mod lent;
+mod picture_cases;
 mod sample_cases;
 mod tally;
 mod text;
@@ -46,6 +49,41 @@ fn sample_call(call: &[u8], line: &[u8]) -> bool {
     }
     if check::same(call, b"reorder") {
         return sample_cases::reorder(line);
+    }
+    if check::same(call, b"marks") {
+        return damage_cases::marks(line);
+    }
+    layout_call(call, line)
+}
+
+fn layout_call(call: &[u8], line: &[u8]) -> bool {
+    if check::same(call, b"check_layout") {
+        return layout_cases::check_layout(line);
+    }
+    if check::same(call, b"check_record") {
+        return layout_cases::check_record(line);
+    }
+    if check::same(call, b"index") {
+        return layout_cases::index(line, false);
+    }
+    if check::same(call, b"index_record") {
+        return layout_cases::index(line, true);
+    }
+    picture_call(call, line)
+}
+
+fn picture_call(call: &[u8], line: &[u8]) -> bool {
+    if check::same(call, b"render") {
+        return picture_cases::render(line, false);
+    }
+    if check::same(call, b"render_record") {
+        return picture_cases::render(line, true);
+    }
+    if check::same(call, b"write_planes") {
+        return picture_cases::write_planes(line, false);
+    }
+    if check::same(call, b"write_record") {
+        return picture_cases::write_planes(line, true);
     }
     false
 }

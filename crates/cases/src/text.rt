@@ -57,6 +57,11 @@ pub fn size(s: &[u8]) -> usize {
     number(s) as usize
 }
 
+// Word k of a line as a number.
+pub fn size_at(line: &[u8], k: usize) -> usize {
+    size(token(line, k))
+}
+
 // A hexadecimal digit's value; any other byte counts as 0.
 fn nibble(b: u8) -> u8
     ensures { λ r. ⌜ r ≤ 15 ⌝ }
