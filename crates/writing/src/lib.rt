@@ -1,6 +1,6 @@
 mod levels;
+mod one_plane;
 mod planar;
-mod rows;
 
 use answer::Done;
 use answer::Refusal;
@@ -64,7 +64,7 @@ fn write(l: RasterLayout, picture: &[u8], planes: &mut [u8])
     if is_planar(l) {
         planar::write_apart(l, picture, planes);
     } else {
-        rows::write_rows(l, picture, planes);
+        one_plane::write_rows(l, picture, planes);
     }
 }
 

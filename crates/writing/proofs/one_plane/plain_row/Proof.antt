@@ -1,11 +1,11 @@
--- `writing::rows::plain_row` meets its contract: the laws are in proofs/Plain.antt. Assumes nothing.
+-- `writing::one_plane::plain_row` meets its contract: the laws are in proofs/Plain.antt. Assumes nothing.
 use borrow.Author.Needs.{needs}
 use native.Mathlib.Omega.{arith}
 use denote.Ref.{now}
 use Rattle.words.specs.Word.{Bytes}
 use Rattle.writing.proofs.Plain.{ordered-whole, plain-done}
-use Rattle.writing.proofs.rows.plain_row.Statement.{statement}
-use Rattle.writing.proofs.rows.plain_row.Tie as tie
+use Rattle.writing.proofs.one_plane.plain_row.Statement.{statement}
+use Rattle.writing.proofs.one_plane.plain_row.Tie as tie
 
 reorder-requires : tie.Need-reorder-requires
 reorder-requires c κs = search needs

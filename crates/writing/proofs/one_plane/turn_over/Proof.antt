@@ -1,10 +1,10 @@
--- `writing::rows::turn_over` meets its contract: the laws are in proofs/Plain.antt. Assumes nothing.
+-- `writing::one_plane::turn_over` meets its contract: the laws are in proofs/Plain.antt. Assumes nothing.
 use borrow.Author.Needs.{needs}
 use native.Mathlib.Omega.{arith}
 use denote.Ref.{now}
 use Rattle.writing.proofs.Plain.{over-none, over-all, over-colours}
-use Rattle.writing.proofs.rows.turn_over.Statement.{statement}
-use Rattle.writing.proofs.rows.turn_over.Tie as tie
+use Rattle.writing.proofs.one_plane.turn_over.Statement.{statement}
+use Rattle.writing.proofs.one_plane.turn_over.Tie as tie
 
 invert-requires : tie.Need-invert-requires
 invert-requires c κs = search needs

@@ -1,10 +1,10 @@
--- `writing::rows::write_rows` meets its contract: the invariant and its laws are in proofs/Rowwise.antt. Assumes nothing.
+-- `writing::one_plane::write_rows` meets its contract: the invariant and its laws are in proofs/Rowwise.antt. Assumes nothing.
 use borrow.Author.Needs.{needs}
 use native.Mathlib.Omega.{arith}
 use Prim.Native.Nat.{_-_}
 use Rattle.writing.proofs.Rowwise.{Rowwise, rows-few, rows-none, row-room, row-fits, row-next, rows-ended}
-use Rattle.writing.proofs.rows.write_rows.Statement.{statement}
-use Rattle.writing.proofs.rows.write_rows.Tie as tie
+use Rattle.writing.proofs.one_plane.write_rows.Statement.{statement}
+use Rattle.writing.proofs.one_plane.write_rows.Tie as tie
 
 abbrev Inv-loop : tie.InvT-loop
 Inv-loop l picture planes₀ read wrote from₀ at₀ y₀ planes from at y = Rowwise l picture planes₀ from at y planes

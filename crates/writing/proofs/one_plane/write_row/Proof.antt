@@ -1,9 +1,9 @@
--- `writing::rows::write_row` meets its contract: the laws are in proofs/Rowwise.antt. Assumes nothing.
+-- `writing::one_plane::write_row` meets its contract: the laws are in proofs/Rowwise.antt. Assumes nothing.
 use borrow.Author.Needs.{needs}
 use native.Mathlib.Omega.{arith}
 use Rattle.writing.proofs.Rowwise.{row-packed, plain-fits, row-plain}
-use Rattle.writing.proofs.rows.write_row.Statement.{statement}
-use Rattle.writing.proofs.rows.write_row.Tie as tie
+use Rattle.writing.proofs.one_plane.write_row.Statement.{statement}
+use Rattle.writing.proofs.one_plane.write_row.Tie as tie
 
 pack-row-requires : tie.Need-pack-row-requires
 pack-row-requires c κs = search needs
