@@ -1,0 +1,3 @@
+pub mod Clause
+pub mod Native
+pub mod Layout

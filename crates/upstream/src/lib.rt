@@ -1,0 +1,1 @@
+// Upstream's definitions and clauses, held beside ours: no code, proofs alone.
