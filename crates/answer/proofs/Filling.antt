@@ -47,6 +47,11 @@ pub length-stores : (out : List ℕ) (at n : ℕ) (g : ℕ → ℕ) → length (
 length-stores out at zero g = refl
 length-stores out at (suc n) g = length-set (stores out at n g) (at + n) (g n) ∙ length-stores out at n g
 
+-- stores of the same bytes
+pub stores-same : (out : List ℕ) (at n : ℕ) (f g : ℕ → ℕ) → ((p : ℕ) → p < n → f p ≡ g p) → stores out at n f ≡ stores out at n g
+stores-same out at zero f g e = refl
+stores-same out at (suc n) f g e = rw (e n (omega arith), stores-same out at n f g (λ p h. e p (omega arith)))
+
 -- stores after stores
 pub stores-on : (out : List ℕ) (at n m : ℕ) (g h : ℕ → ℕ) → ((p : ℕ) → p < m → h p ≡ g (n + p)) → stores (stores out at n g) (at + n) m h ≡ stores out at (n + m) g
 stores-on out at n zero g h e = rw (add-zero n)

@@ -62,6 +62,18 @@ fn straighten_pixel(s: &mut [u8], at: usize, last: usize, multiplied: bool, whit
     }
 }
 
+// The same, with the numbers of colours that pictures have said outright, so that the compiler writes their loops out.
+fn straighten_known(s: &mut [u8], at: usize, last: usize, multiplied: bool, white: bool)
+    requires { ⌜ at + last < length (now s) ⌝ }
+    ensures { λ r. ⌜ PixelStraightened (now (s .entry)) at last multiplied white (now (s .exit)) ⌝ }
+{
+    match last {
+        1 => straighten_pixel(s, at, 1, multiplied, white),
+        3 => straighten_pixel(s, at, 3, multiplied, white),
+        _ => straighten_pixel(s, at, last, multiplied, white),
+    }
+}
+
 fn straighten_pixels(s: &mut [u8], channels: usize, multiplied: bool, white: bool)
     requires { ⌜ WholePixels (now s) channels ⌝ }
     ensures { λ r. ⌜ PixelsStraightened (now (s .entry)) channels multiplied white (now (s .exit)) ⌝ }
@@ -69,7 +81,7 @@ fn straighten_pixels(s: &mut [u8], channels: usize, multiplied: bool, white: boo
     let last = channels - 1;
     let mut at: usize = 0;
     while at < s.len() {
-        straighten_pixel(s, at, last, multiplied, white);
+        straighten_known(s, at, last, multiplied, white);
         at += channels;
     }
 }

@@ -71,6 +71,28 @@ fn pixel(
     }
 }
 
+// The same, with the numbers of channels that pictures have said outright, so that the compiler writes their loops out.
+fn known_pixel(
+    raw: &[u8],
+    plane_len: usize,
+    place: usize,
+    channels: usize,
+    bytes: usize,
+    le: bool,
+    at: usize,
+    out: &mut [u8],
+)
+    requires { ⌜ PixelFits (now raw) «plane_len» place channels bytes at (now out) × OneOrTwo bytes ⌝ }
+    ensures { λ r. ⌜ PixelGathered (now (raw .entry)) «plane_len» place channels bytes le at (now (out .entry)) (now (out .exit)) ⌝ }
+{
+    match channels {
+        2 => pixel(raw, plane_len, place, 2, bytes, le, at, out),
+        3 => pixel(raw, plane_len, place, 3, bytes, le, at, out),
+        4 => pixel(raw, plane_len, place, 4, bytes, le, at, out),
+        _ => pixel(raw, plane_len, place, channels, bytes, le, at, out),
+    }
+}
+
 // A row of pixels whose channels stand in planes of their own.
 fn planes(
     raw: &[u8],
@@ -87,7 +109,7 @@ fn planes(
     let mut place = from;
     let mut at: usize = 0;
     while at < out.len() {
-        pixel(raw, plane_len, place, channels, bytes, le, at, out);
+        known_pixel(raw, plane_len, place, channels, bytes, le, at, out);
         place += bytes;
         at += channels * bytes;
     }

@@ -9,9 +9,9 @@ use native.Mathlib.Omega.{arith}
 use borrow.Author.Tests.{le-ltb}
 use lib.ListN.{length, getD}
 use Rattle.answer.specs.Table.{filled}
-use Rattle.answer.proofs.Filling.{length-stores, stores-filled, filled-front, filled-already}
-use Rattle.words.specs.Word.{wordAt, modulus, plus, minus}
-use Rattle.words.proofs.Words.{digits-word}
+use Rattle.answer.proofs.Filling.{length-stores, stores-same, stores-filled, filled-front, filled-already}
+use Rattle.words.specs.Word.{wordAt, backwards, modulus, plus, minus}
+use Rattle.words.proofs.Words.{digits-word, backwards-digit}
 use Rattle.swaps.proofs.Mirror.{group-room}
 use Rattle.strips.specs.Sample.{alone, wordOf, sample, difference, storedAt}
 use Rattle.strips.proofs.Sums.{first-alone, sample-alone, sample-later, difference-later}
@@ -19,6 +19,10 @@ use Rattle.strips.proofs.Stored.{stored-byte}
 use Rattle.strips.proofs.Strips.{groups-words}
 use Rattle.strips.proofs.Undo.{sample-below}
 use Rattle.rows.specs.Row.{oneRow, RowFits, Led, Put}
+
+-- a word stored backwards is stored in the other byte order
+pub put-backwards : (old : List ℕ) (at width v : ℕ) (new : List ℕ) → Put old at width true (backwards width v) new → Put old at width false v new
+put-backwards old at width v new e = e ∙ stores-same old at width _ _ (backwards-digit width v)
 
 -- the buffer holds the words v, stored, up to `at`
 pub record Upto (v : ℕ → ℕ) (width : ℕ) (out-le : Bool) (raw old : List ℕ) (at : ℕ) (out : List ℕ) : Type 0 where

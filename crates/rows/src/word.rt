@@ -1,5 +1,7 @@
-// Words at a place, and sums of them, for each width: every arm's bytes are read, or written, in a straight line.
+// Words at a place, and sums of them, for each width. A word's bytes are read, and in a function of their own written, in a straight line, the
+// least significant first, and the word turned as a number: so the compiler makes one load, one swap and one store of them, and many at once.
 ghost use mathlib.Core.Path.{_≡_};
+ghost use mathlib.Core.Bool.{true};
 ghost use Prim.Native.Nat.{_+_, _≤_};
 ghost use lib.ListN.{length};
 ghost use Rattle.words.specs.Word.{wordAt, plus, minus};
@@ -16,51 +18,33 @@ pub(crate) fn get2(s: &[u8], at: usize, le: bool) -> u16
     requires { ⌜ at + 2 ≤ length (now s) ⌝ }
     ensures { λ r. ⌜ r ≡ wordAt (now (s .entry)) at 2 le ⌝ }
 {
-    if le {
-        words::join2(s[at], s[at + 1])
-    } else {
-        words::join2(s[at + 1], s[at])
-    }
+    let v = words::join2(s[at], s[at + 1]);
+    if le { v } else { words::backwards2(v) }
 }
 
 pub(crate) fn get4(s: &[u8], at: usize, le: bool) -> u32
     requires { ⌜ at + 4 ≤ length (now s) ⌝ }
     ensures { λ r. ⌜ r ≡ wordAt (now (s .entry)) at 4 le ⌝ }
 {
-    if le {
-        words::join4(s[at], s[at + 1], s[at + 2], s[at + 3])
-    } else {
-        words::join4(s[at + 3], s[at + 2], s[at + 1], s[at])
-    }
+    let v = words::join4(s[at], s[at + 1], s[at + 2], s[at + 3]);
+    if le { v } else { words::backwards4(v) }
 }
 
 pub(crate) fn get8(s: &[u8], at: usize, le: bool) -> u64
     requires { ⌜ at + 8 ≤ length (now s) ⌝ }
     ensures { λ r. ⌜ r ≡ wordAt (now (s .entry)) at 8 le ⌝ }
 {
-    if le {
-        words::join8(
-            s[at],
-            s[at + 1],
-            s[at + 2],
-            s[at + 3],
-            s[at + 4],
-            s[at + 5],
-            s[at + 6],
-            s[at + 7],
-        )
-    } else {
-        words::join8(
-            s[at + 7],
-            s[at + 6],
-            s[at + 5],
-            s[at + 4],
-            s[at + 3],
-            s[at + 2],
-            s[at + 1],
-            s[at],
-        )
-    }
+    let v = words::join8(
+        s[at],
+        s[at + 1],
+        s[at + 2],
+        s[at + 3],
+        s[at + 4],
+        s[at + 5],
+        s[at + 6],
+        s[at + 7],
+    );
+    if le { v } else { words::backwards8(v) }
 }
 
 pub(crate) fn put1(out: &mut [u8], at: usize, le: bool, v: u8)
@@ -70,17 +54,33 @@ pub(crate) fn put1(out: &mut [u8], at: usize, le: bool, v: u8)
     out[at] = v;
 }
 
+fn store2(out: &mut [u8], at: usize, v: u16)
+    requires { ⌜ at + 2 ≤ length (now out) ⌝ }
+    ensures { λ r. ⌜ Put (now (out .entry)) at 2 true v (now (out .exit)) ⌝ }
+{
+    out[at] = (v % 256) as u8;
+    out[at + 1] = (v / 256 % 256) as u8;
+}
+
 pub(crate) fn put2(out: &mut [u8], at: usize, le: bool, v: u16)
     requires { ⌜ at + 2 ≤ length (now out) ⌝ }
     ensures { λ r. ⌜ Put (now (out .entry)) at 2 le v (now (out .exit)) ⌝ }
 {
     if le {
-        out[at] = (v % 256) as u8;
-        out[at + 1] = (v / 256 % 256) as u8;
+        store2(out, at, v);
     } else {
-        out[at] = (v / 256 % 256) as u8;
-        out[at + 1] = (v % 256) as u8;
+        store2(out, at, words::backwards2(v));
     }
+}
+
+fn store4(out: &mut [u8], at: usize, v: u32)
+    requires { ⌜ at + 4 ≤ length (now out) ⌝ }
+    ensures { λ r. ⌜ Put (now (out .entry)) at 4 true v (now (out .exit)) ⌝ }
+{
+    out[at] = (v % 256) as u8;
+    out[at + 1] = (v / 256 % 256) as u8;
+    out[at + 2] = (v / 65536 % 256) as u8;
+    out[at + 3] = (v / 16777216 % 256) as u8;
 }
 
 pub(crate) fn put4(out: &mut [u8], at: usize, le: bool, v: u32)
@@ -88,16 +88,24 @@ pub(crate) fn put4(out: &mut [u8], at: usize, le: bool, v: u32)
     ensures { λ r. ⌜ Put (now (out .entry)) at 4 le v (now (out .exit)) ⌝ }
 {
     if le {
-        out[at] = (v % 256) as u8;
-        out[at + 1] = (v / 256 % 256) as u8;
-        out[at + 2] = (v / 65536 % 256) as u8;
-        out[at + 3] = (v / 16777216 % 256) as u8;
+        store4(out, at, v);
     } else {
-        out[at] = (v / 16777216 % 256) as u8;
-        out[at + 1] = (v / 65536 % 256) as u8;
-        out[at + 2] = (v / 256 % 256) as u8;
-        out[at + 3] = (v % 256) as u8;
+        store4(out, at, words::backwards4(v));
     }
+}
+
+fn store8(out: &mut [u8], at: usize, v: u64)
+    requires { ⌜ at + 8 ≤ length (now out) ⌝ }
+    ensures { λ r. ⌜ Put (now (out .entry)) at 8 true v (now (out .exit)) ⌝ }
+{
+    out[at] = (v % 256) as u8;
+    out[at + 1] = (v / 256 % 256) as u8;
+    out[at + 2] = (v / 65536 % 256) as u8;
+    out[at + 3] = (v / 16777216 % 256) as u8;
+    out[at + 4] = (v / 4294967296 % 256) as u8;
+    out[at + 5] = (v / 1099511627776 % 256) as u8;
+    out[at + 6] = (v / 281474976710656 % 256) as u8;
+    out[at + 7] = (v / 72057594037927936 % 256) as u8;
 }
 
 pub(crate) fn put8(out: &mut [u8], at: usize, le: bool, v: u64)
@@ -105,23 +113,9 @@ pub(crate) fn put8(out: &mut [u8], at: usize, le: bool, v: u64)
     ensures { λ r. ⌜ Put (now (out .entry)) at 8 le v (now (out .exit)) ⌝ }
 {
     if le {
-        out[at] = (v % 256) as u8;
-        out[at + 1] = (v / 256 % 256) as u8;
-        out[at + 2] = (v / 65536 % 256) as u8;
-        out[at + 3] = (v / 16777216 % 256) as u8;
-        out[at + 4] = (v / 4294967296 % 256) as u8;
-        out[at + 5] = (v / 1099511627776 % 256) as u8;
-        out[at + 6] = (v / 281474976710656 % 256) as u8;
-        out[at + 7] = (v / 72057594037927936 % 256) as u8;
+        store8(out, at, v);
     } else {
-        out[at] = (v / 72057594037927936 % 256) as u8;
-        out[at + 1] = (v / 281474976710656 % 256) as u8;
-        out[at + 2] = (v / 1099511627776 % 256) as u8;
-        out[at + 3] = (v / 4294967296 % 256) as u8;
-        out[at + 4] = (v / 16777216 % 256) as u8;
-        out[at + 5] = (v / 65536 % 256) as u8;
-        out[at + 6] = (v / 256 % 256) as u8;
-        out[at + 7] = (v % 256) as u8;
+        store8(out, at, words::backwards8(v));
     }
 }
 

@@ -7,8 +7,9 @@ use mathlib.Core.List.{List, [], _∷_}
 use lib.ListN.{length, getD}
 use lib.Dec.{eqb, ltb}
 use Rattle.answer.specs.Outcome.{Fault, unless, unsupported, invalid, outputTooSmall, Promise, doneOutcome}
-use Rattle.answer.specs.Table.{table, filled}
+use Rattle.answer.specs.Table.{table, filled, stores}
 use Rattle.answer.specs.declared.Done.{Done}
+use Rattle.words.specs.Digits.{digit}
 
 -- the place that mirrors k in its group of `width` bytes
 abbrev pub mirror : ℕ → ℕ → ℕ
@@ -33,8 +34,20 @@ Swapped raw width old answer new =
 -- what the loops that swap need: whole groups, and room for them; and what they do
 pub record SwapFits (raw : List ℕ) (width : ℕ) (out : List ℕ) : Type 0 where
   pub some : 0 < width
+  pub few : width ≤ 8
   pub groups : length raw % width ≡ 0
   pub room : length raw ≤ length out
 
 abbrev pub SwappedInto : List ℕ → ℕ → List ℕ → List ℕ → Type 0
 SwappedInto raw width old new = new ≡ filled (length raw) (swappedAt raw width) old
+
+-- some bytes stored backwards: where they are and where they go; and a word's digits stored
+pub record Room (raw : List ℕ) (from n : ℕ) (out : List ℕ) (at : ℕ) : Type 0 where
+  pub there : from + n ≤ length raw
+  pub here : at + n ≤ length out
+
+abbrev pub Backwards : List ℕ → ℕ → ℕ → List ℕ → ℕ → List ℕ → Type 0
+Backwards raw from n old at new = new ≡ stores old at n (λ p. getD raw (from + (n - 1 - p)) 0)
+
+abbrev pub Stored : List ℕ → ℕ → ℕ → ℕ → List ℕ → Type 0
+Stored old at n v new = new ≡ stores old at n (λ p. digit 256 p v)

@@ -1,20 +1,36 @@
-mod loops;
+mod back;
 
 use answer::Done;
 use answer::Refusal;
-ghost use Rattle.swaps.specs.Swapped.{Swapped, SwapFits, SwappedInto};
+ghost use Prim.Native.Nat.{_≤_, _<_};
+ghost use Rattle.swaps.specs.Swapped.{Room, Backwards, Swapped, SwapFits, SwappedInto};
 
+// One group.
+fn swap_group(raw: &[u8], at: usize, width: usize, out: &mut [u8])
+    requires { ⌜ (0 < width) × (width ≤ 8) × Room (now raw) at width (now out) at ⌝ }
+    ensures { λ r. ⌜ Backwards (now (raw .entry)) at width (now (out .entry)) at (now (out .exit)) ⌝ }
+{
+    match width {
+        1 => back::back1(raw, at, out, at),
+        2 => back::back2(raw, at, out, at),
+        3 => back::back3(raw, at, out, at),
+        4 => back::back4(raw, at, out, at),
+        5 => back::back5(raw, at, out, at),
+        6 => back::back6(raw, at, out, at),
+        7 => back::back7(raw, at, out, at),
+        _ => back::back8(raw, at, out, at),
+    }
+}
+
+// Every group. The compiler makes a loop for each width of this one.
 fn swap_groups(raw: &[u8], width: usize, out: &mut [u8])
     requires { ⌜ SwapFits (now raw) width (now out) ⌝ }
     ensures { λ r. ⌜ SwappedInto (now (raw .entry)) width (now (out .entry)) (now (out .exit)) ⌝ }
 {
-    match width {
-        1 => loops::swap1(raw, out),
-        2 => loops::swap2(raw, out),
-        3 => loops::swap3(raw, out),
-        4 => loops::swap4(raw, out),
-        8 => loops::swap8(raw, out),
-        _ => loops::swap_any(raw, width, out),
+    let mut at: usize = 0;
+    while at < raw.len() {
+        swap_group(raw, at, width, out);
+        at += width;
     }
 }
 

@@ -11,6 +11,7 @@ use Rattle.words.specs.declared.Loaded.{Loaded}
 use Rattle.words.specs.declared.Loaded.the-variants as Loaded-is
 use Rattle.words.specs.declared.Place.{Place}
 use Rattle.words.specs.declared.Place.the-variants as Place-is
+use Rattle.words.specs.Word.{backwards}
 use Rattle.words.specs.Promises.{served, Joined, Placed, ReadWord, LoadedWord, wordOutcome, loadedOutcome, placeOutcome}
 
 pub width-served-determined : (width : ℕ) (a b : Bool) → a ≡ served width → b ≡ served width → a ≡ b
@@ -27,6 +28,18 @@ join4-determined a b c d = joined-determined (a ∷ b ∷ c ∷ d ∷ [])
 
 pub join8-determined : (a b c d e f g h x y : ℕ) → Joined (a ∷ b ∷ c ∷ d ∷ e ∷ f ∷ g ∷ h ∷ []) x → Joined (a ∷ b ∷ c ∷ d ∷ e ∷ f ∷ g ∷ h ∷ []) y → x ≡ y
 join8-determined a b c d e f g h = joined-determined (a ∷ b ∷ c ∷ d ∷ e ∷ f ∷ g ∷ h ∷ [])
+
+backwards-determined : (width v x y : ℕ) → x ≡ backwards width v → y ≡ backwards width v → x ≡ y
+backwards-determined width v x y p q = p ∙ sym q
+
+pub backwards2-determined : (v x y : ℕ) → x ≡ backwards 2 v → y ≡ backwards 2 v → x ≡ y
+backwards2-determined = backwards-determined 2
+
+pub backwards4-determined : (v x y : ℕ) → x ≡ backwards 4 v → y ≡ backwards 4 v → x ≡ y
+backwards4-determined = backwards-determined 4
+
+pub backwards8-determined : (v x y : ℕ) → x ≡ backwards 8 v → y ≡ backwards 8 v → x ≡ y
+backwards8-determined = backwards-determined 8
 
 abbrev place-back : Outcome ℕ → Place
 place-back (done v) = Place-is.At (record { 0 = v })

@@ -8,8 +8,8 @@ use native.Mathlib.Nat.{add-zero, div-one, one-le-pow, mod-lt, mod-eq-of-lt, mod
 use native.Mathlib.Omega.{arith}
 use lib.ListN.{getD}
 use Rattle.words.specs.Digits.{digit}
-use Rattle.words.specs.Word.{turn, Bytes, wordAt, modulus, plus, minus}
-use Rattle.words.proofs.Digits.{value-same, value-below, digit-value, value-digit}
+use Rattle.words.specs.Word.{turn, Bytes, wordAt, backwards, modulus, plus, minus}
+use Rattle.words.proofs.Digits.{value-same, value-below, digit-below, digit-value, value-digit}
 
 pub turn-below : (le : Bool) (width p : ℕ) → p < width → turn le width p < width
 turn-below true width p h = h
@@ -48,6 +48,14 @@ pub digits-word : (s : List ℕ) (at width : ℕ) (le : Bool) (v : ℕ) → ((p 
 digits-word s at width le v e =
     value-same 256 width _ _ (λ p h. e (turn le width p) (turn-below le width p h) ∙ ap (λ (q : ℕ). digit 256 q v) (turn-turn le width p h))
     ∙ value-digit 256 width v (omega arith)
+
+-- its digits are those of the word, backwards
+pub backwards-digit : (width v p : ℕ) → p < width → digit 256 p (backwards width v) ≡ digit 256 (turn false width p) v
+backwards-digit width v p h = digit-value 256 width (λ q. digit 256 (turn false width q) v) (λ q l. digit-below 256 (turn false width q) v (omega arith)) p h
+
+-- and is the word of the same bytes in the other order
+pub word-backwards : (s : List ℕ) (at width : ℕ) → Bytes s → backwards width (wordAt s at width true) ≡ wordAt s at width false
+word-backwards s at width b = value-same 256 width _ _ (λ p h. word-digit s at width true b (turn false width p) (turn-below false width p h))
 
 -- bytes that agree make one word
 pub word-same : (s t : List ℕ) (i j width : ℕ) (le : Bool) → ((p : ℕ) → p < width → getD s (i + p) 0 ≡ getD t (j + p) 0) → wordAt s i width le ≡ wordAt t j width le

@@ -4,7 +4,7 @@ use Prim.Native.Nat.{ℕ, _+_, _-_, _%_, _^_, _<_}
 use mathlib.Core.Bool.{Bool, true, false}
 use mathlib.Core.List.{List}
 use lib.ListN.{getD}
-use Rattle.words.specs.Digits.{value}
+use Rattle.words.specs.Digits.{digit, value}
 
 -- where, among a word's bytes, its digit p stands; and which digit byte p is
 abbrev pub turn : Bool → ℕ → ℕ → ℕ
@@ -18,6 +18,10 @@ Bytes s = (i : ℕ) → getD s i 0 < 256
 -- the word of the `width` bytes at a place
 abbrev pub wordAt : List ℕ → ℕ → ℕ → Bool → ℕ
 wordAt s at width le = value 256 width (λ p. getD s (at + turn le width p) 0)
+
+-- the word whose bytes are those of v, backwards
+abbrev pub backwards : ℕ → ℕ → ℕ
+backwards width v = value 256 width (λ p. digit 256 (turn false width p) v)
 
 abbrev pub modulus : ℕ → ℕ
 modulus width = 256 ^ width

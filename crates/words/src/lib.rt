@@ -6,7 +6,7 @@ ghost use mathlib.Core.Bool.{true};
 ghost use mathlib.Core.List.{[], _∷_};
 ghost use Prim.Native.Nat.{_+_, _≤_};
 ghost use lib.ListN.{length};
-ghost use Rattle.words.specs.Word.{wordAt};
+ghost use Rattle.words.specs.Word.{wordAt, backwards};
 ghost use Rattle.words.specs.Promises.{served, loadWidth, Joined, Placed, ReadWord, LoadedWord};
 
 // The answer of `read_word`.
@@ -64,6 +64,35 @@ pub fn join8(a: u8, b: u8, c: u8, d: u8, e: u8, f: u8, g: u8, h: u8) -> u64
     (join4(a, b, c, d) as u64) + 4294967296 * (join4(e, f, g, h) as u64)
 }
 
+// The bytes of a word backwards: two of them.
+pub fn backwards2(v: u16) -> u16
+    ensures { λ r. ⌜ r ≡ backwards 2 v ⌝ }
+{
+    v % 256 * 256 + v / 256 % 256
+}
+
+// Four.
+pub fn backwards4(v: u32) -> u32
+    ensures { λ r. ⌜ r ≡ backwards 4 v ⌝ }
+{
+    v % 256 * 16777216 + v / 256 % 256 * 65536 + v / 65536 % 256 * 256 + v / 16777216 % 256
+}
+
+// Eight.
+pub fn backwards8(v: u64) -> u64
+    ensures { λ r. ⌜ r ≡ backwards 8 v ⌝ }
+{
+    let low = v % 256 * 72057594037927936
+        + v / 256 % 256 * 281474976710656
+        + v / 65536 % 256 * 1099511627776
+        + v / 16777216 % 256 * 4294967296;
+    let high = v / 4294967296 % 256 * 16777216
+        + v / 1099511627776 % 256 * 65536
+        + v / 281474976710656 % 256 * 256
+        + v / 72057594037927936 % 256;
+    low + high
+}
+
 // The byte at which sample i begins, among `length` bytes of samples of this width.
 pub fn byte_place(i: SampleAt, width: usize, length: usize) -> Place
     ensures { λ r. ⌜ Placed (i .0) width length r ⌝ }
@@ -82,51 +111,33 @@ fn get2(s: &[u8], at: usize, le: bool) -> u16
     requires { ⌜ at + 2 ≤ length (now s) ⌝ }
     ensures { λ r. ⌜ r ≡ wordAt (now (s .entry)) at 2 le ⌝ }
 {
-    if le {
-        join2(s[at], s[at + 1])
-    } else {
-        join2(s[at + 1], s[at])
-    }
+    let v = join2(s[at], s[at + 1]);
+    if le { v } else { backwards2(v) }
 }
 
 fn get4(s: &[u8], at: usize, le: bool) -> u32
     requires { ⌜ at + 4 ≤ length (now s) ⌝ }
     ensures { λ r. ⌜ r ≡ wordAt (now (s .entry)) at 4 le ⌝ }
 {
-    if le {
-        join4(s[at], s[at + 1], s[at + 2], s[at + 3])
-    } else {
-        join4(s[at + 3], s[at + 2], s[at + 1], s[at])
-    }
+    let v = join4(s[at], s[at + 1], s[at + 2], s[at + 3]);
+    if le { v } else { backwards4(v) }
 }
 
 fn get8(s: &[u8], at: usize, le: bool) -> u64
     requires { ⌜ at + 8 ≤ length (now s) ⌝ }
     ensures { λ r. ⌜ r ≡ wordAt (now (s .entry)) at 8 le ⌝ }
 {
-    if le {
-        join8(
-            s[at],
-            s[at + 1],
-            s[at + 2],
-            s[at + 3],
-            s[at + 4],
-            s[at + 5],
-            s[at + 6],
-            s[at + 7],
-        )
-    } else {
-        join8(
-            s[at + 7],
-            s[at + 6],
-            s[at + 5],
-            s[at + 4],
-            s[at + 3],
-            s[at + 2],
-            s[at + 1],
-            s[at],
-        )
-    }
+    let v = join8(
+        s[at],
+        s[at + 1],
+        s[at + 2],
+        s[at + 3],
+        s[at + 4],
+        s[at + 5],
+        s[at + 6],
+        s[at + 7],
+    );
+    if le { v } else { backwards8(v) }
 }
 
 fn get(s: &[u8], at: usize, width: usize, le: bool) -> u64

@@ -19,8 +19,8 @@ sub-last c = omega (arith, c .before .pre .some)
 loop-holds : tie.Need-loop-holds Inv-loop μ-loop
 loop-holds c = straight-start _ _ _ _
 
-straighten-pixel-requires : tie.Need-straighten-pixel-requires Inv-loop μ-loop
-straighten-pixel-requires c κs =
+straighten-known-requires : tie.Need-straighten-known-requires Inv-loop μ-loop
+straighten-known-requires c κs =
     let at = c .before .before in
     let start = at .before .before in
     omega (arith, pixel-room (start .pre) (at .loop .inv) (omega (arith, c .before .loop-test .taken, at .loop .inv .same)), at .loop .inv .same, start .pre .some)
@@ -41,7 +41,7 @@ loop-again : tie.Need-loop-again Inv-loop μ-loop
 loop-again c =
     let at = c .before .before .before .before .before in
     let start = at .before .before in
-    pixel-turned (start .pre) (at .loop .inv) (omega (arith, c .before .before .before .before .loop-test .taken, at .loop .inv .same)) _ (c .before .before .straighten-pixel .ensures)
+    pixel-turned (start .pre) (at .loop .inv) (omega (arith, c .before .before .before .before .loop-test .taken, at .loop .inv .same)) _ (c .before .before .straighten-known .ensures)
 
 same-length : tie.Need-same-length Inv-loop μ-loop
 same-length c = search needs
@@ -55,4 +55,4 @@ returns c =
 pub straighten-pixels-spec : {M : Type 1} → statement M
 straighten-pixels-spec =
     tie.close
-    (tie.spec Inv-loop μ-loop sub-last loop-holds straighten-pixel-requires add-at loop-less loop-again same-length returns)
+    (tie.spec Inv-loop μ-loop sub-last loop-holds straighten-known-requires add-at loop-less loop-again same-length returns)

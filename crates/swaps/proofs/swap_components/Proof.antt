@@ -46,7 +46,7 @@ sound c =
     (next (le-ltb _ _ (c .before .before .if2 .left)) (next (ap not (eq-eqb _ _ (c .before .if3 .left))) (next (le-ltb _ _ (c .if4 .left)) none)))
 
 swap-groups-requires : tie.Need-swap-groups-requires
-swap-groups-requires c κs = record { some = omega arith; groups = c .before .before .if3 .left; room = omega arith }
+swap-groups-requires c κs = record { some = omega arith; few = omega arith; groups = c .before .before .if3 .left; room = omega arith }
 
 same-length : tie.Need-same-length
 same-length c = search needs

@@ -1,81 +1,44 @@
--- `swaps::swap_groups` meets its contract: each arm calls its width's loop. Assumes nothing.
+-- `swaps::swap_groups` meets its contract: a group a turn, in the order of proofs/Swapping.antt. Assumes nothing.
 use borrow.Author.Needs.{needs}
+use native.Mathlib.Omega.{arith}
+use Prim.Native.Nat.{_-_}
+use lib.ListN.{length}
+use Rattle.swaps.proofs.Swapping.{Swapping, begun, room, turned, ended}
 use Rattle.swaps.proofs.swap_groups.Statement.{statement}
 use Rattle.swaps.proofs.swap_groups.Tie as tie
 
-swap1-requires : tie.Need-swap1-requires
-swap1-requires c κs = rw (c .before .match .keys1) at (c .before .before .before .before .pre)
+abbrev Inv-loop : tie.InvT-loop
+Inv-loop raw width out₀ at₀ out at = Swapping raw width out₀ at out
 
-swap2-requires : tie.Need-swap2-requires
-swap2-requires c κs = rw (c .before .match .keys2) at (c .before .before .before .before .pre)
+abbrev μ-loop : tie.MeasureT-loop
+μ-loop raw width out₀ at₀ out at = length raw - at
 
-swap3-requires : tie.Need-swap3-requires
-swap3-requires c κs = rw (c .before .match .keys3) at (c .before .before .before .before .pre)
+loop-holds : tie.Need-loop-holds Inv-loop μ-loop
+loop-holds c = begun _ _ _
 
-swap4-requires : tie.Need-swap4-requires
-swap4-requires c κs = rw (c .before .match .keys4) at (c .before .before .before .before .pre)
+swap-group-requires : tie.Need-swap-group-requires Inv-loop μ-loop
+swap-group-requires c κs =
+    let at = c .before .before in
+    let fits = at .before .before .before .pre in
+    let there = room fits (at .loop .inv) (c .before .loop-test .taken) in
+    (fits .some, fits .few, record { there = there; here = omega (arith, there, fits .room, at .loop .inv .same) })
 
-swap8-requires : tie.Need-swap8-requires
-swap8-requires c κs = rw (c .before .match .keys5) at (c .before .before .before .before .pre)
+add-at : tie.Need-add-at Inv-loop μ-loop
+add-at c = omega arith
 
-swap-any-requires : tie.Need-swap-any-requires
-swap-any-requires c κs = search needs
+loop-less : tie.Need-loop-less Inv-loop μ-loop
+loop-less c = omega arith
 
-same-length : tie.Need-same-length
+loop-again : tie.Need-loop-again Inv-loop μ-loop
+loop-again c =
+    let at = c .before .before .before .before .before in
+    turned (at .before .before .before .pre) (at .loop .inv) (c .before .before .before .before .loop-test .taken) _ (c .before .before .swap-group .ensures)
+
+same-length : tie.Need-same-length Inv-loop μ-loop
 same-length c = search needs
 
-returns : tie.Need-returns
-returns c = rw (c .before .before .before .before .match .keys1) (c .before .before .swap1 .ensures)
-
-same-length-2 : tie.Need-same-length-2
-same-length-2 c = search needs
-
-returns-2 : tie.Need-returns-2
-returns-2 c = rw (c .before .before .before .before .match .keys2) (c .before .before .swap2 .ensures)
-
-same-length-3 : tie.Need-same-length-3
-same-length-3 c = search needs
-
-returns-3 : tie.Need-returns-3
-returns-3 c = rw (c .before .before .before .before .match .keys3) (c .before .before .swap3 .ensures)
-
-same-length-4 : tie.Need-same-length-4
-same-length-4 c = search needs
-
-returns-4 : tie.Need-returns-4
-returns-4 c = rw (c .before .before .before .before .match .keys4) (c .before .before .swap4 .ensures)
-
-same-length-5 : tie.Need-same-length-5
-same-length-5 c = search needs
-
-returns-5 : tie.Need-returns-5
-returns-5 c = rw (c .before .before .before .before .match .keys5) (c .before .before .swap8 .ensures)
-
-same-length-6 : tie.Need-same-length-6
-same-length-6 c = search needs
-
-returns-6 : tie.Need-returns-6
-returns-6 c = c .before .before .swap-any .ensures
+returns : tie.Need-returns Inv-loop μ-loop
+returns c = let at = c .before in ended (at .before .before .before .pre) (at .loop .inv) (c .loop-test .left)
 
 pub swap-groups-spec : {M : Type 1} → statement M
-swap-groups-spec =
-    tie.close
-    (tie.spec
-    swap1-requires
-    swap2-requires
-    swap3-requires
-    swap4-requires
-    swap8-requires
-    swap-any-requires
-    same-length
-    returns
-    same-length-2
-    returns-2
-    same-length-3
-    returns-3
-    same-length-4
-    returns-4
-    same-length-5
-    returns-5
-    same-length-6
-    returns-6)
+swap-groups-spec = tie.close (tie.spec Inv-loop μ-loop loop-holds swap-group-requires add-at loop-less loop-again same-length returns)

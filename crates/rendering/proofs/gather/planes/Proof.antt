@@ -16,8 +16,8 @@ abbrev μ-loop : tie.MeasureT-loop
 loop-holds : tie.Need-loop-holds Inv-loop μ-loop
 loop-holds c = pixels-none _ _ _ _ _ _ _
 
-pixel-requires : tie.Need-pixel-requires Inv-loop μ-loop
-pixel-requires c κs =
+known-pixel-requires : tie.Need-known-pixel-requires Inv-loop μ-loop
+known-pixel-requires c κs =
     let at = c .before .before in
     let start = at .before .before .before in
     (pixel-fits (start .pre) (at .loop .inv) (omega (arith, c .before .loop-test .taken, at .loop .inv .same)), start .pre .width)
@@ -50,7 +50,7 @@ loop-again : tie.Need-loop-again Inv-loop μ-loop
 loop-again c =
     let at = c .before .before .before .before .before in
     let start = at .before .before .before in
-    pixel-next (start .pre) (at .loop .inv) (omega (arith, c .before .before .before .before .loop-test .taken, at .loop .inv .same)) _ (c .before .before .pixel .ensures)
+    pixel-next (start .pre) (at .loop .inv) (omega (arith, c .before .before .before .before .loop-test .taken, at .loop .inv .same)) _ (c .before .before .known-pixel .ensures)
 
 same-length : tie.Need-same-length Inv-loop μ-loop
 same-length c = search needs
@@ -63,4 +63,4 @@ returns c =
 
 pub planes-spec : {M : Type 1} → statement M
 planes-spec =
-    tie.close (tie.spec Inv-loop μ-loop loop-holds pixel-requires add-place mul-at add-at loop-less loop-again same-length returns)
+    tie.close (tie.spec Inv-loop μ-loop loop-holds known-pixel-requires add-place mul-at add-at loop-less loop-again same-length returns)

@@ -1,8 +1,17 @@
--- `rows::word::get8` meets its contract: in each byte order the bytes handed to `join8` are the word's digits. Assumes nothing.
+-- `rows::word::get8` meets its contract: the bytes are the word's digits, and the word backwards is that of the other byte order. Assumes nothing.
 use borrow.Author.Needs.{needs}
+use mathlib.Core.Path.{_≡_, ap, _∙_}
+use mathlib.Core.Bool.{true}
 use native.Mathlib.Nat.{add-zero}
+use native.Mathlib.Omega.{arith}
+use denote.Ref.{now}
+use Rattle.words.specs.Word.{Bytes, wordAt, backwards}
+use Rattle.words.proofs.Words.{word-backwards}
 use Rattle.rows.proofs.word.get8.Statement.{statement}
 use Rattle.rows.proofs.word.get8.Tie as tie
+
+bytes : (c : tie.After-shared-slice-known) → Bytes (now (c .before .args .s))
+bytes c i = omega (arith, c .shared-slice-known .given i)
 
 shared-slice-read-join8 : tie.Need-shared-slice-read-join8
 shared-slice-read-join8 c = search needs
@@ -52,59 +61,17 @@ shared-slice-read-join8-8 c = search needs
 join8-requires : tie.Need-join8-requires
 join8-requires c κs = search needs
 
-add-join8-8 : tie.Need-add-join8-8
-add-join8-8 c = search needs
-
-shared-slice-read-join8-9 : tie.Need-shared-slice-read-join8-9
-shared-slice-read-join8-9 c = search needs
-
-add-join8-9 : tie.Need-add-join8-9
-add-join8-9 c = search needs
-
-shared-slice-read-join8-10 : tie.Need-shared-slice-read-join8-10
-shared-slice-read-join8-10 c = search needs
-
-add-join8-10 : tie.Need-add-join8-10
-add-join8-10 c = search needs
-
-shared-slice-read-join8-11 : tie.Need-shared-slice-read-join8-11
-shared-slice-read-join8-11 c = search needs
-
-add-join8-11 : tie.Need-add-join8-11
-add-join8-11 c = search needs
-
-shared-slice-read-join8-12 : tie.Need-shared-slice-read-join8-12
-shared-slice-read-join8-12 c = search needs
-
-add-join8-12 : tie.Need-add-join8-12
-add-join8-12 c = search needs
-
-shared-slice-read-join8-13 : tie.Need-shared-slice-read-join8-13
-shared-slice-read-join8-13 c = search needs
-
-add-join8-13 : tie.Need-add-join8-13
-add-join8-13 c = search needs
-
-shared-slice-read-join8-14 : tie.Need-shared-slice-read-join8-14
-shared-slice-read-join8-14 c = search needs
-
-add-join8-14 : tie.Need-add-join8-14
-add-join8-14 c = search needs
-
-shared-slice-read-join8-15 : tie.Need-shared-slice-read-join8-15
-shared-slice-read-join8-15 c = search needs
-
-shared-slice-read-join8-16 : tie.Need-shared-slice-read-join8-16
-shared-slice-read-join8-16 c = search needs
-
-join8-requires-2 : tie.Need-join8-requires-2
-join8-requires-2 c κs = search needs
+backwards8-requires : tie.Need-backwards8-requires
+backwards8-requires c κs = search needs
 
 returns : tie.Need-returns
-returns c = rw (c .before .before .before .before .before .before .before .before .before .if1 .taken, add-zero (c .before .before .before .before .before .before .before .before .before .before .before .args .at)) (c .join8 .ensures)
+returns c = let args = c .before .before .before .before .before .before .before .before .before .before .before .args in rw (c .if1 .taken, add-zero (args .at)) (c .before .join8 .ensures)
 
 returns-2 : tie.Need-returns-2
-returns-2 c = rw (c .before .before .before .before .before .before .before .before .before .if1 .left, add-zero (c .before .before .before .before .before .before .before .before .before .before .before .args .at)) (c .join82 .ensures)
+returns-2 c =
+    let args = c .before .before .before .before .before .before .before .before .before .before .before .before .args in
+    let little : c .before .before .join8 .result ≡ wordAt (now (args .s)) (args .at) 8 true = rw (add-zero (args .at)) (c .before .before .join8 .ensures) in
+    rw (c .before .if1 .left) (c .backwards8 .ensures ∙ ap (backwards 8) little ∙ word-backwards (now (args .s)) (args .at) 8 (bytes (c .before .before .before .before .before .before .before .before .before .before .before)))
 
 pub get8-spec : {M : Type 1} → statement M
 get8-spec =
@@ -126,21 +93,6 @@ get8-spec =
     add-join8-7
     shared-slice-read-join8-8
     join8-requires
-    add-join8-8
-    shared-slice-read-join8-9
-    add-join8-9
-    shared-slice-read-join8-10
-    add-join8-10
-    shared-slice-read-join8-11
-    add-join8-11
-    shared-slice-read-join8-12
-    add-join8-12
-    shared-slice-read-join8-13
-    add-join8-13
-    shared-slice-read-join8-14
-    add-join8-14
-    shared-slice-read-join8-15
-    shared-slice-read-join8-16
-    join8-requires-2
+    backwards8-requires
     returns
     returns-2)
