@@ -114,6 +114,22 @@ sound-front (f ∷ fs) gs (next t s) = next t (sound-front fs gs s)
 pub refused-told : {A : Type 0} (fs : List Fault) (a : A) (r : Refusal) → refused (number r) ≡ unless fs a → First fs (number r)
 refused-told fs a r e = refused-first fs a (number r) (sym e)
 
+-- what an answer says of the faults that were looked for
+pub passed : (fs : List Fault) (a : Done) → doneOutcome a ≡ unless fs tt → a ≡ Done-is.Done → Sound fs
+passed fs a p e = done-sound fs tt tt (sym p ∙ ap doneOutcome e)
+
+pub stopped : (fs : List Fault) (a : Done) (k : Refusal) → doneOutcome a ≡ unless fs tt → a ≡ Done-is.Refused k → First fs (number k)
+stopped fs a k p e = refused-told fs tt k (sym (ap doneOutcome e) ∙ p)
+
+-- with no fault in the first list the second decides
+pub sound-skip : {A : Type 0} {fs : List Fault} (gs : List Fault) (a : A) → Sound fs → unless (fs ++ gs) a ≡ unless gs a
+sound-skip gs a none = refl
+sound-skip gs a (next t s) = rw t (sound-skip gs a s)
+
+pub sound-back : (fs gs : List Fault) → Sound (fs ++ gs) → Sound gs
+sound-back [] gs s = s
+sound-back (f ∷ fs) gs (next t s) = sound-back fs gs s
+
 -- how a promise with no buffer is met
 pub refusing : {A : Type 0} (fs : List Fault) (a : A) {n : ℕ} → First fs n → refused n ≡ unless fs a
 refusing fs a r = sym (first-refused a r)

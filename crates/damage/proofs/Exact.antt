@@ -17,10 +17,10 @@ use Rattle.words.specs.Digits.{digit}
 use Rattle.words.specs.Word.{turn, Bytes, modulus, plus, minus}
 use Rattle.words.proofs.Words.{word-below, word-digit, word-same, plus-minus}
 use Rattle.strips.specs.Sample.{Strip, alone, wordOf, sample}
-use Rattle.strips.proofs.Sums.{not-alone, sample-alone, sample-later}
+use Rattle.strips.proofs.Sums.{neither, not-alone, sample-alone, sample-later}
 use Rattle.strips.proofs.Undo.{sample-below}
 use Rattle.damage.specs.Marks.{struck, marked, markByte, Alike, Differ}
-use Rattle.damage.proofs.Marking.{past-end, mark-small, neither, damaged-hurt, unstruck, struck-where, marked-alone, marked-later}
+use Rattle.damage.proofs.Marking.{past-end, mark-small, damaged-hurt, unstruck, struck-where, marked-alone, marked-later}
 
 -- `plus` cancels, on either side
 plus-left : (width a c b : ℕ) → a < modulus width → c < modulus width → b < modulus width → plus width a b ≡ plus width c b → a ≡ c

@@ -15,7 +15,7 @@ use Rattle.words.specs.Digits.{value}
 use Rattle.words.specs.Word.{wordAt}
 use Rattle.swaps.proofs.Mirror.{into-group}
 use Rattle.strips.specs.Sample.{Strip, alone}
-use Rattle.strips.proofs.Sums.{in-row, not-alone, first-alone}
+use Rattle.strips.proofs.Sums.{neither, in-row, not-alone, first-alone}
 use Rattle.damage.specs.Marks.{damaged, anyBelow, struckAt, struck, tainted, marked, markByte}
 use Rattle.damage.specs.Passes.{markOf}
 
@@ -29,11 +29,6 @@ past-end (x ∷ l) (suc i) h = past-end l i (omega arith)
 pub mark-small : (b : Bool) → markByte b ≤ 1
 mark-small true = omega arith
 mark-small false = omega arith
-
--- neither of two
-pub neither : (a b : Bool) → (a || b) ≡ false → (a ≡ false) × (b ≡ false)
-neither true b e = absurd (let z : _≡_ {A = ℕ} 0 1 = cc in omega arith)
-neither false b e = (refl, e)
 
 any-none : (n : ℕ) (f : ℕ → Bool) → anyBelow n f ≡ false → (p : ℕ) → p < n → f p ≡ false
 any-none zero f e p h = absurd (omega arith)

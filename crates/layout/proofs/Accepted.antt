@@ -1,16 +1,15 @@
 -- What the three steps have shown of a layout, as plain facts, and that these facts are all they ask. Assumes nothing.
 use Prim.Native.Nat.{ℕ, _≤_, _<_}
-use mathlib.Core.Path.{_≡_, refl, sym}
-use mathlib.Core.Bool.{Bool, true, false}
+use mathlib.Core.Path.{_≡_}
+use mathlib.Core.Bool.{true, false}
 use mathlib.Core.Logic.{_⊎_, inl, inr, ⊎-elim}
-use native.Mathlib.Decide.{decLt}
 use native.Mathlib.Omega.{arith}
 use borrow.Author.Tests.{eqb-false, ltb-false, le-ltb, ne-eqb, not-false}
 use Rattle.answer.specs.Outcome.{Sound, next, none}
 use Rattle.layout.specs.declared.Fields.{Fields}
 use Rattle.layout.specs.declared.RasterLayout.{RasterLayout}
 use Rattle.layout.specs.Layout.{servedFaults, layoutFaults, agreement, oneTwoEight, eightRule, alphaRule, paletteRule, slotsRule, sideLimit, byteLimit, outputLength}
-use Rattle.layout.proofs.Says.{Says, held, refuted, equal, differ, up, down, both, either, whenever}
+use Rattle.layout.proofs.Says.{Says, held, equal, differ, up, down, both, either, whenever}
 
 abbrev pub OneTwoEight : ℕ → Type 0
 OneTwoEight n = ((n ≡ 1) ⊎ (n ≡ 2)) ⊎ (n ≡ 8)
@@ -117,57 +116,12 @@ module _ {f : Fields} (a : Accepted f) where
   bilevel p e = ⊎-elim (λ one. absurd (omega arith)) (λ q. ((q .0 .0 .1, q .0 .1), q .1)) (a .shared p)
 
   -- a palette
-  pub mapped-channels : f .palette ≡ true → f .ch ≡ 3
-  mapped-channels p = a .mapped p .0 .0 .0 .0
-
-  pub mapped-bytes : f .palette ≡ true → f .bytes ≡ 1
-  mapped-bytes p = a .mapped p .0 .0 .0 .1
-
   pub mapped-together : f .palette ≡ true → f .separate ≡ false
   mapped-together p = a .mapped p .0 .1
-
-  pub mapped-clear : f .palette ≡ true → f .alpha ≡ 0
-  mapped-clear p = a .mapped p .1
-
-  -- so a byte that holds eight samples is all that a channel has
-  pub eight-slots : f .slots ≡ 8 → f .bytes ≡ 1
-  eight-slots e = by (f .palette) refl
-    where
-      by : (b : Bool) → f .palette ≡ b → f .bytes ≡ 1
-      by true p = mapped-bytes p
-      by false p = bilevel p e .0 .1
-
-  -- two samples in a byte are places of a map
-  pub nibbles : f .slots ≡ 2 → f .palette ≡ true
-  nibbles e = by (f .palette) refl
-    where
-      by : (b : Bool) → f .palette ≡ b → f .palette ≡ true
-      by true p = p
-      by false p = ⊎-elim (λ one. absurd (omega arith)) (λ q. absurd (omega arith)) (a .shared p)
 
   -- beside alpha each sample is a byte
   pub alpha-bytes : (f .alpha ≡ 0 → ⊥) → f .bytes ≡ 1
   alpha-bytes n = a .covered n .0 .0
-
-  pub alpha-channels : (f .alpha ≡ 0 → ⊥) → (f .ch ≡ 2) ⊎ (f .ch ≡ 4)
-  alpha-channels n = a .covered n .0 .1
-
-  pub alpha-bare : (f .alpha ≡ 0 → ⊥) → f .palette ≡ false
-  alpha-bare n = a .covered n .1
-
-  pub alpha-alone : (f .alpha ≡ 0 → ⊥) → f .slots ≡ 1
-  alpha-alone n = ⊎-elim (λ one. one) (λ q. absurd (n (q .1))) (a .shared (alpha-bare n))
-
-  -- wider samples stand by themselves
-  pub words-plain : (f .bytes ≡ 1 → ⊥) → ((f .palette ≡ false) × (f .slots ≡ 1)) × (f .alpha ≡ 0)
-  words-plain n = ((bare, ⊎-elim (λ one. one) (λ q. absurd (n (q .0 .1))) (a .shared bare)), clear (decLt 0 (f .alpha)))
-    where
-      bare : f .palette ≡ false
-      bare = sym (refuted (up (f .palette)) (λ p. n (mapped-bytes p)))
-
-      clear : Dec (0 < f .alpha) → f .alpha ≡ 0
-      clear (yes m) = absurd (n (alpha-bytes (λ e. omega arith)))
-      clear (no m) = omega arith
 
 -- the fields that follow, compared
 abbrev pub Agreement : RasterLayout → RasterLayout → Type 0

@@ -12,7 +12,7 @@ use Rattle.answer.specs.Outcome.{Sound, next, none, done, invalid}
 use Rattle.answer.specs.declared.ByteAt.{ByteAt}
 use Rattle.answer.specs.declared.Done.{Done}
 use Rattle.answer.specs.declared.Done.the-variants as Done-is
-use Rattle.answer.proofs.Promised.{done-sound, done-value, done-once, sound-done, sound-here, sound-front, sound-more}
+use Rattle.answer.proofs.Promised.{done-sound, done-value, done-once, sound-done, sound-here, sound-front, sound-more, sound-back}
 use Rattle.layout.specs.declared.Fields.{Fields}
 use Rattle.layout.specs.declared.RasterLayout.{RasterLayout}
 use Rattle.layout.specs.declared.Checked.{Checked}
@@ -22,7 +22,6 @@ use Rattle.layout.specs.Layout.{fields, given, recordOf, completed, enco
 use Rattle.layout.specs.Valid.{Valid, Within}
 use Rattle.layout.proofs.Says.{held}
 use Rattle.layout.proofs.Accepted.{Accepted, accepted, all-asked, OneTwoEight, Agreement, agrees}
-use Rattle.layout.proofs.Steps.{sound-back}
 use Rattle.layout.proofs.Sizes.{scratch-within}
 use Rattle.layout.proofs.Whole.{agreed-whole, record-whole, record-accepted, record-agreed}
 use Rattle.layout.proofs.Placed.{source-below}

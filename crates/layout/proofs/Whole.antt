@@ -5,11 +5,10 @@ use mathlib.Core.List.{[], _∷_}
 use borrow.Author.Tests.{not-false}
 use mathlib.Core.Bool.{not}
 use Rattle.answer.specs.Outcome.{Sound, invalid}
-use Rattle.answer.proofs.Promised.{sound-front, sound-here}
+use Rattle.answer.proofs.Promised.{sound-front, sound-here, sound-back}
 use Rattle.layout.specs.declared.Fields.{Fields}
 use Rattle.layout.specs.declared.RasterLayout.{RasterLayout}
 use Rattle.layout.specs.Layout.{given, recordOf, completed, agreement, layoutFaults, recordFaults}
-use Rattle.layout.proofs.Steps.{sound-back}
 use Rattle.layout.proofs.Accepted.{Accepted, accepted, Agreement, agrees}
 
 same-numbers : (f : Fields) {a b c d e g h a′ b′ c′ d′ e′ g′ h′ : ℕ} → a ≡ a′ → b ≡ b′ → c ≡ c′ → d ≡ d′ → e ≡ e′ → g ≡ g′ → h ≡ h′ → recordOf f a b c d e g h ≡ recordOf f a′ b′ c′ d′ e′ g′ h′

@@ -26,10 +26,6 @@ colours-few slots = by (eqb slots 8) (eqb slots 2)
     by false true = omega arith
     by false false = omega arith
 
-pub high-few : (le : Bool) {n : ℕ} → n ≡ highByte le → n ≤ 1
-high-few true e = omega arith
-high-few false e = omega arith
-
 -- with no fault all that is read is there
 pub paint-fits : (file : List ℕ) (map slots first : ℕ) (raw out : List ℕ) → first ≤ 1 → Sound (paletteFaults (length file) map slots (length raw) (length out)) → (oneTwoEight slots ≡ true) × PaintFits file (map + first) slots raw out
 paint-fits file map slots first raw out small (next served (next groups (next within (next bytes none)))) = (

@@ -12,15 +12,14 @@ use lib.Dec.{eqb}
 use Rattle.answer.specs.Outcome.{Sound}
 use Rattle.answer.specs.Table.{table}
 use Rattle.answer.specs.declared.Done.the-variants as Done-is
-use Rattle.answer.proofs.Promised.{writes, done-sound, sound-front, sound-here, sound-rest}
+use Rattle.answer.proofs.Promised.{writes, done-sound, sound-front, sound-here, sound-rest, sound-back}
 use Rattle.answer.proofs.Filling.{length-table, table-at, table-same}
 use Rattle.words.specs.Word.{Bytes}
 use Rattle.layout.specs.declared.RasterLayout.{RasterLayout}
 use Rattle.layout.specs.Layout.{recordFaults}
-use Rattle.layout.proofs.Steps.{sound-back}
 use Rattle.pixels.specs.Render.{converted, Rendered}
 use Rattle.pixels.specs.Planes.{twoLevels, written, planeFaults, writeFaults, Written, unpadded}
-use Rattle.pixels.proofs.Undo.{passed, render-written, write-rendered}
+use Rattle.pixels.proofs.Undo.{not-picked, render-written, write-rendered}
 use Rattle.picture.proofs.Same.{converted-same, written-same}
 
 -- the front of a buffer that is a table, byte by byte
@@ -87,4 +86,4 @@ module _ (l : RasterLayout) (file : List ℕ) where
   pub rendered-then-written-plain : (raw old out old-planes planes : List ℕ) → Bytes raw → l .«scratch_len» ≤ length raw → eqb (l .slots) 8 ≡ false → Rendered l file raw old Done-is.Done out → Written l out old-planes Done-is.Done planes → take (l .«scratch_len») planes ≡ take (l .«scratch_len») raw
   unfolding unpadded
   rendered-then-written-plain raw old out old-planes planes bytes long several r w =
-      rendered-then-written raw old out old-planes planes bytes r w ∙ table-same (l .«scratch_len») _ _ (λ i h. passed _ _ several) ∙ own-front (l .«scratch_len») raw long
+      rendered-then-written raw old out old-planes planes bytes r w ∙ table-same (l .«scratch_len») _ _ (λ i h. not-picked _ _ several) ∙ own-front (l .«scratch_len») raw long

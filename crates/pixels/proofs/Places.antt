@@ -3,7 +3,7 @@
 use Prim.Native.Nat.{ℕ, zero, suc, _+_, _-_, _*_, _/_, _%_, _<_}
 use mathlib.Core.Path.{_≡_, refl, sym, ap, _∙_}
 use mathlib.Core.Bool.{Bool, true, false, _&&_}
-use native.Mathlib.Nat.{mul-comm, mul-zero, mul-one, add-assoc, add-zero, div-add-mod', div-eq-of-lt, mod-eq-of-lt, mod-lt, mul-add-div-right, mul-add-mod-self-right, div-lt-iff-lt-mul}
+use native.Mathlib.Nat.{mul-comm, mul-zero, mul-one, add-assoc, add-zero, div-add-mod', div-eq-of-lt, mod-eq-of-lt, mod-lt, mul-add-div-right, mul-add-mod-self-right, div-lt-iff-lt-mul, mul-assoc}
 use native.Mathlib.Omega.{arith}
 use lib.Dec.{eqb}
 use Rattle.answer.specs.Outcome.{Sound, pick}
@@ -12,6 +12,7 @@ use Rattle.layout.specs.Layout.{given, encodedWidth, planeChannels, planes, pla
 use Rattle.layout.proofs.Accepted.{up-to-eight}
 use Rattle.layout.proofs.Whole.{record-accepted, record-agreed}
 use Rattle.layout.proofs.Placed.{grouped, stride-some, output-is, scratch-is, plain-one, row-is, turned-within}
+use Rattle.pixels.specs.Render.{rowBytes}
 use Rattle.pixels.specs.Planes.{placeIndex}
 
 -- item b of group a, in groups of m
@@ -37,6 +38,10 @@ turned-turned bytes le c = by (eqb bytes 2 && le)
 -- bytes of a pixel
 abbrev pub stride : RasterLayout → ℕ
 stride l = l .ch * l .bytes
+
+-- a picture's length by its rows
+pub output-rows : (l : RasterLayout) → Sound (recordFaults l) → l .«output_len» ≡ l .h * rowBytes l
+output-rows l s = output-is l s ∙ ap (λ (n : ℕ). n * stride l) (mul-comm (l .w) (l .h)) ∙ mul-assoc (l .h) (l .w) (stride l)
 
 module _ (l : RasterLayout) (s : Sound (recordFaults l)) (plain : packed l ≡ false) where
   bytes-some : 0 < l .bytes
@@ -68,9 +73,6 @@ module _ (l : RasterLayout) (s : Sound (recordFaults l)) (plain : packed l ≡ f
 
   -- byte b of channel c of pixel p, in its channel's plane
   module _ (apart : l .separate ≡ true) where
-    channel-byte : (c b : ℕ) → c < l .ch → b < l .bytes → c * l .bytes + b < stride l
-    channel-byte c b h k = grouped h k
-
     pub apart-source : (p c : ℕ) → c < stride l → sourceIndex l (p * (stride l) + c) ≡ turned (l .bytes) (l .le) c / l .bytes * l .«plane_len» + (p * l .bytes + turned (l .bytes) (l .le) c % l .bytes)
     unfolding plainIndex
     apart-source p c h = rw (plain, apart, group-of p (stride l) h, item-of p (stride l) h) (add-assoc _ _ _)

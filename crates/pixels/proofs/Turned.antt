@@ -1,5 +1,5 @@
 -- Words of one or two bytes in the other byte order: the bytes of each change places, as the layout turns them. Assumes nothing.
-use Prim.Native.Nat.{ℕ, _+_, _-_, _*_, _%_, _<_}
+use Prim.Native.Nat.{ℕ, _+_, _-_, _*_, _%_, _≤_, _<_}
 use mathlib.Core.Path.{_≡_, refl, ap, _∙_}
 use mathlib.Core.Bool.{Bool, true, false, _&&_}
 use mathlib.Core.List.{List}
@@ -10,6 +10,7 @@ use lib.ListN.{getD}
 use lib.Dec.{eqb}
 use Rattle.answer.specs.Outcome.{Sound, pick}
 use Rattle.words.specs.Word.{Bytes}
+use Rattle.words.specs.Promises.{served}
 use Rattle.swaps.specs.Swapped.{mirror}
 use Rattle.strips.specs.Sample.{wordOf, storedAt}
 use Rattle.strips.specs.Promises.{apart}
@@ -26,6 +27,20 @@ one-or-two l s narrow = by (record-accepted l s .bytes)
     by : ((l .bytes ≡ 1) ⊎ (l .bytes ≡ 2)) ⊎ (l .bytes ≡ 8) → OneOrTwo (l .bytes)
     by (inl w) = w
     by (inr e) = absurd (eqb-false (l .bytes) 8 narrow e)
+
+pub some-bytes : {bytes : ℕ} → OneOrTwo bytes → 0 < bytes
+some-bytes (inl e) = omega arith
+some-bytes (inr e) = omega arith
+
+pub narrow-served : {bytes : ℕ} → OneOrTwo bytes → served bytes ≡ true
+unfolding served
+narrow-served (inl e) = rw e
+narrow-served (inr e) = rw e
+
+-- a word's more significant byte is its first or its second
+pub high-few : (le : Bool) {n : ℕ} → n ≡ highByte le → n ≤ 1
+high-few true e = omega arith
+high-few false e = omega arith
 
 pub turned-one : (le : Bool) (c : ℕ) → turned 1 le c ≡ c
 unfolding turned

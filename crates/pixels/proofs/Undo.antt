@@ -35,8 +35,8 @@ flipped-flipped false v h = refl
 pub picked : {b : Bool} (x y : ℕ) → b ≡ true → pick b x y ≡ x
 picked x y e = rw e
 
-pub passed : {b : Bool} (x y : ℕ) → b ≡ false → pick b x y ≡ y
-passed x y e = rw e
+pub not-picked : {b : Bool} (x y : ℕ) → b ≡ false → pick b x y ≡ y
+not-picked x y e = rw e
 
 -- a byte of two levels and its bit
 pub level-bit : (white : Bool) (v : ℕ) → (v ≡ 0) ⊎ (v ≡ 255) → pick (apart (eqb (bilevelBit white v) 0) white) 0 255 ≡ v
@@ -100,7 +100,7 @@ module _ (l : RasterLayout) (s : Sound (recordFaults l)) (off : l .palette ≡ f
     pub bilevel-converted : (file raw : List ℕ) (y x : ℕ) → x < l .w → converted l file raw (y * l .w + x) ≡ bilevelByte (l .white) x (getD raw (y * l .«encoded_width» + x / 8) 0)
     unfolding converted
     bilevel-converted file raw y x h =
-        passed _ _ off
+        not-picked _ _ off
         ∙ picked _ _ (eq-eqb (l .slots) 8 eight)
         ∙ ap (λ (n : ℕ). bilevelByte (l .white) n (source l raw (y * l .w + x))) (item-of y (l .w) h)
         ∙ ap (λ (i : ℕ). bilevelByte (l .white) x (getD raw i 0)) (bilevel-source y x h)
@@ -165,11 +165,11 @@ module _ (l : RasterLayout) (s : Sound (recordFaults l)) (off : l .palette ≡ f
 
     plain-converted : (file raw : List ℕ) (k : ℕ) → converted l file raw k ≡ flipped (flips l k) (source l raw k)
     unfolding converted
-    plain-converted file raw k = passed _ _ off ∙ passed _ _ several ∙ plain-flipped l raw k kind
+    plain-converted file raw k = not-picked _ _ off ∙ not-picked _ _ several ∙ plain-flipped l raw k kind
 
     plain-written : (picture : List ℕ) (i : ℕ) → written l picture i ≡ flipped (flips l (placeIndex l i)) (getD picture (placeIndex l i) 0)
     unfolding written
-    plain-written picture i = passed _ _ several
+    plain-written picture i = not-picked _ _ several
 
     plain-render-written : (file picture : List ℕ) (k : ℕ) → k < l .«output_len» → Bytes picture → converted l file (table (l .«scratch_len») (written l picture)) k ≡ getD picture k 0
     plain-render-written file picture k h bytes =
@@ -189,7 +189,7 @@ module _ (l : RasterLayout) (s : Sound (recordFaults l)) (off : l .palette ≡ f
         ∙ ap (flipped (flips l k)) (table-at (l .«output_len») (converted l file raw) k (back .0) ∙ plain-converted file raw k)
         ∙ flipped-flipped (flips l k) (source l raw k) (bytes (sourceIndex l k))
         ∙ ap (λ (n : ℕ). getD raw n 0) (back .1)
-        ∙ sym (passed _ _ several)
+        ∙ sym (not-picked _ _ several)
 
 -- a picture of two levels
 pub levels : (n : ℕ) (picture : List ℕ) → twoLevels n picture ≡ true → (k : ℕ) → k < n → (getD picture k 0 ≡ 0) ⊎ (getD picture k 0 ≡ 255)

@@ -11,7 +11,7 @@ use Rattle.words.specs.Digits.{digit, value}
 use Rattle.strips.specs.Promises.{apart}
 use Rattle.layout.specs.declared.RasterLayout.{RasterLayout}
 use Rattle.layout.specs.Layout.{recordFaults, turned}
-use Rattle.pixels.specs.Render.{flipped, lastChannel}
+use Rattle.pixels.specs.Render.{flipped}
 
 -- the byte of the picture that place i of the planes takes, where a place holds one byte
 unfoldable pub placeIndex : RasterLayout → ℕ → ℕ
@@ -20,9 +20,12 @@ placeIndex l i =
     let within = i % l .«plane_len» in
     pick (l .separate) (within / l .bytes * stride + turned (l .bytes) (l .le) (i / l .«plane_len» * l .bytes + within % l .bytes)) (i / stride * stride + turned (l .bytes) (l .le) (i % stride))
 
--- white turns every byte over but alpha's
+-- white turns every channel over but alpha, and so byte k
+abbrev pub turnsOver : RasterLayout → ℕ → Bool
+turnsOver l c = l .white && (eqb (l .alpha) 0 || not (eqb c (l .ch - 1)))
+
 abbrev pub flips : RasterLayout → ℕ → Bool
-flips l k = l .white && (eqb (l .alpha) 0 || not (lastChannel l k))
+flips l k = turnsOver l (k % l .ch)
 
 -- the bit of a bilevel byte
 abbrev pub bilevelBit : Bool → ℕ → ℕ

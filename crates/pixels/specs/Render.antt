@@ -15,6 +15,13 @@ use Rattle.strips.specs.Promises.{apart}
 use Rattle.layout.specs.declared.RasterLayout.{RasterLayout}
 use Rattle.layout.specs.Layout.{recordFaults, sourceIndex}
 
+-- bytes of a row of the picture, and of a row of a plane
+abbrev pub rowBytes : RasterLayout → ℕ
+rowBytes l = l .w * (l .ch * l .bytes)
+
+abbrev pub planeRow : RasterLayout → ℕ
+planeRow l = l .«encoded_width» * l .«plane_channels»
+
 -- white is 0: the byte turned over
 abbrev pub flipped : Bool → ℕ → ℕ
 flipped white v = pick white (255 - v) v

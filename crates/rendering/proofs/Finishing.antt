@@ -15,9 +15,9 @@ use Rattle.answer.proofs.Promised.{finished}
 use Rattle.answer.proofs.Filling.{length-table, table-at, table-same, table-self, filled-all}
 use Rattle.layout.specs.declared.RasterLayout.{RasterLayout}
 use Rattle.layout.proofs.Whole.{record-accepted}
-use Rattle.pixels.specs.Render.{flipped, straightColour, source, plainByte}
+use Rattle.pixels.specs.Render.{rowBytes, flipped, straightColour, source, plainByte}
 use Rattle.pixels.specs.Finish.{Inverted, straightAt, straightFaults, Straightened}
-use Rattle.rendering.specs.Rows.{rowBytes, PlainRow, WholeRow, finishedAt, Finished, Gathered, PlainRendered}
+use Rattle.rendering.specs.Rows.{PlainRow, WholeRow, finishedAt, Finished, Gathered, PlainRendered}
 
 module _ (l : RasterLayout) (old : List ℕ) where
   straight-same : (j : ℕ) → eqb (l .alpha) 0 ≡ false → straightAt old (l .ch) (eqb (l .alpha) 1) (l .white) j ≡ finishedAt l old j

@@ -1,9 +1,9 @@
 -- A row of pixels whose channels stand in planes of their own: the loop over a pixel's channels and the loop over the pixels. Assumes nothing.
 use Prim.Native.Nat.{ℕ, zero, suc, _+_, _-_, _*_, _/_, _%_, _≤_, _<_}
 use mathlib.Core.Path.{_≡_, refl, sym, ap, _∙_}
-use mathlib.Core.Bool.{Bool, true, false}
+use mathlib.Core.Bool.{Bool}
 use mathlib.Core.List.{List}
-use mathlib.Core.Logic.{inl, inr}
+use mathlib.Core.Logic.{inr}
 use native.Mathlib.Nat.{zero-mod, zero-div, zero-mul, add-zero, add-mul, one-mul, mul-one, mul-pos, div-one, mod-one, add-mod-right, add-div-right, div-add-mod', le-div-iff-mul-le, mul-le-mul-right}
 use native.Mathlib.Omega.{arith}
 use lib.ListN.{length, getD, set}
@@ -13,18 +13,14 @@ use Rattle.answer.specs.Table.{filled, stores}
 use Rattle.answer.proofs.Filling.{length-stores, stores-on, stores-filled, length-filled, filled-all}
 use Rattle.swaps.proofs.Mirror.{group-room}
 use Rattle.layout.specs.Layout.{turned}
-use Rattle.pixels.proofs.Turned.{turned-one, turned-two, turned-in}
+use Rattle.pixels.proofs.Turned.{high-few, some-bytes, turned-one, turned-two, turned-in}
 use Rattle.pixels.proofs.Places.{group-of, item-of}
-use Rattle.pixels.specs.Render.{highByte, OneOrTwo}
+use Rattle.pixels.specs.Render.{highByte}
 use Rattle.rendering.specs.Rows.{planePlace, planesAt, PixelFits, PixelGathered, PlanesFit, PlanesInto}
 
 -- which byte of its channel a byte of a two-byte pixel is
 turned-pair : (le : Bool) (c p : ℕ) → turned 2 le (c * 2 + p) ≡ c * 2 + turned 2 le p
 turned-pair le c p = turned-in 2 (inr refl) le c p
-
-some-bytes : {bytes : ℕ} → OneOrTwo bytes → 0 < bytes
-some-bytes (inl e) = omega arith
-some-bytes (inr e) = omega arith
 
 -- the loop over the channels of a pixel
 pub record Channelwise (raw : List ℕ) (planeLength place channels bytes : ℕ) (le : Bool) (at : ℕ) (old : List ℕ) (c from : ℕ) (out : List ℕ) : Type 0 where
@@ -79,13 +75,9 @@ module _ {raw : List ℕ} {planeLength place channels : ℕ} {le : Bool} {at : �
       place-of : (p q : ℕ) → q < 2 → turned 2 le (c * 2 + p) ≡ c * 2 + q → from + q ≡ planePlace planeLength place 2 le (c * 2 + p)
       place-of p q k e = rw e (rw (group-of c 2 k, item-of c 2 k) (omega (arith, is .from-is)))
 
-      bit : (b : Bool) → highByte b ≤ 1
-      bit true = omega arith
-      bit false = omega arith
-
       agree : (p : ℕ) → p < 2 → from + pick (eqb p 0) high (1 - high) ≡ planePlace planeLength place 2 le (c * 2 + p)
-      agree zero h = ap (λ (n : ℕ). from + n) which ∙ place-of 0 (highByte le) (omega (arith, bit le)) (turned-pair le c 0 ∙ ap (λ (n : ℕ). c * 2 + n) (turned-two le .0))
-      agree (suc zero) h = ap (λ (n : ℕ). from + (1 - n)) which ∙ place-of 1 (1 - highByte le) (omega (arith, bit le)) (turned-pair le c 1 ∙ ap (λ (n : ℕ). c * 2 + n) (turned-two le .1))
+      agree zero h = ap (λ (n : ℕ). from + n) which ∙ place-of 0 (highByte le) (omega (arith, high-few le refl)) (turned-pair le c 0 ∙ ap (λ (n : ℕ). c * 2 + n) (turned-two le .0))
+      agree (suc zero) h = ap (λ (n : ℕ). from + (1 - n)) which ∙ place-of 1 (1 - highByte le) (omega (arith, high-few le refl)) (turned-pair le c 1 ∙ ap (λ (n : ℕ). c * 2 + n) (turned-two le .1))
       agree (suc (suc p)) h = absurd (omega arith)
 
 -- the loop over the pixels of a row

@@ -19,11 +19,11 @@ use Rattle.layout.proofs.Says.{held}
 use Rattle.layout.proofs.Accepted.{one-two-eight, up-to-eight, bilevel}
 use Rattle.layout.proofs.Whole.{record-accepted, record-agreed}
 use Rattle.layout.proofs.Placed.{scratch-is, packed-one, row-within, scratch-limited}
-use Rattle.pixels.specs.Render.{source, slotShift, mapByte, paletteIndex, bilevelByte, converted}
+use Rattle.pixels.specs.Render.{rowBytes, source, slotShift, mapByte, paletteIndex, bilevelByte, converted}
 use Rattle.pixels.proofs.Places.{group-of, item-of}
 use Rattle.pixels.proofs.Undo.{picked, bilevel-converted}
 use Rattle.packed.specs.Rows.{bilevelAt, bilevelFaults, BilevelRow, coloursOf, paletteAt, paletteFaults, PaletteRow}
-use Rattle.rendering.specs.Rows.{rowBytes, RowOf, RowRendered}
+use Rattle.rendering.specs.Rows.{RowOf, RowRendered}
 
 module _ {l : RasterLayout} {file raw : List ℕ} {y : ℕ} {out : List ℕ} (row : RowOf l file raw y out) (is : packed l ≡ true) where
   pub packed-row-end : y * l .«encoded_width» + l .«encoded_width» ≤ l .«scratch_len»

@@ -7,8 +7,8 @@ use borrow.Author.Tests.{ltb-false}
 use lib.Dec.{eqb, ltb}
 use Rattle.answer.specs.Outcome.{pick, Sound}
 use Rattle.layout.proofs.Says.{clash}
-use Rattle.pixels.proofs.Undo.{passed}
-use native.Mathlib.Nat.{add-mul, one-mul, zero-mul, mul-comm, mul-assoc, mul-le-mul-right}
+use Rattle.pixels.proofs.Undo.{not-picked}
+use native.Mathlib.Nat.{add-mul, one-mul, zero-mul, mul-le-mul-right}
 use native.Mathlib.Omega.{arith}
 use lib.ListN.{length, take, drop}
 use Rattle.answer.specs.Table.{table, filled}
@@ -16,9 +16,9 @@ use Rattle.answer.proofs.Filling.{table-same, part, length-part, part-filled, l
 use Rattle.layout.specs.declared.RasterLayout.{RasterLayout}
 use Rattle.layout.specs.Layout.{byteLimit, packed, colours, recordFaults}
 use Rattle.layout.proofs.Whole.{record-accepted, record-agreed}
-use Rattle.layout.proofs.Placed.{output-is}
-use Rattle.pixels.specs.Render.{converted}
-use Rattle.rendering.specs.Rows.{rowBytes, PlainRow, PlainRendered, Served, RowOf, RowRendered, RowsRendered}
+use Rattle.pixels.specs.Render.{rowBytes, converted}
+use Rattle.pixels.proofs.Places.{output-rows}
+use Rattle.rendering.specs.Rows.{PlainRow, PlainRendered, Served, RowOf, RowRendered, RowsRendered}
 
 pub record Rows (l : RasterLayout) (file raw old : List ℕ) (y at : ℕ) (out : List ℕ) : Type 0 where
   pub inside : y ≤ l .h
@@ -30,23 +30,20 @@ pub rows-none : (l : RasterLayout) (file raw old : List ℕ) → Rows l file raw
 rows-none l file raw old = record { inside = omega arith; at-is = sym (zero-mul (rowBytes l)); same = refl; so-far = refl }
 
 module _ {l : RasterLayout} {file raw old : List ℕ} (served : Served l file raw old) where
-  pub output-rows : l .«output_len» ≡ l .h * rowBytes l
-  output-rows = output-is l (served .sound) ∙ ap (λ (n : ℕ). n * (l .ch * l .bytes)) (mul-comm (l .w) (l .h)) ∙ mul-assoc (l .h) (l .w) (l .ch * l .bytes)
-
   -- no product wraps
   pub row-small : (l .ch * l .bytes ≤ rowBytes l) × (rowBytes l ≤ byteLimit)
   row-small =
       let shown = record-accepted l (served .sound) in
       let pixel : 1 * (l .ch * l .bytes) ≤ l .w * (l .ch * l .bytes) = mul-le-mul-right (l .ch * l .bytes) (shown .wide) in
       let one : 1 * rowBytes l ≤ l .h * rowBytes l = mul-le-mul-right (rowBytes l) (shown .high) in
-      (omega (arith, one-mul (l .ch * l .bytes)), omega (arith, one-mul (rowBytes l), output-rows, record-agreed l (served .sound) .0 .1, shown .size))
+      (omega (arith, one-mul (l .ch * l .bytes)), omega (arith, one-mul (rowBytes l), output-rows l (served .sound), record-agreed l (served .sound) .0 .1, shown .size))
 
   module _ {y at : ℕ} {out : List ℕ} (is : Rows l file raw old y at out) where
     module _ (more : y < l .h) where
       pub row-room : at + rowBytes l ≤ l .«output_len»
       row-room =
           let all : (y + 1) * rowBytes l ≤ l .h * rowBytes l = mul-le-mul-right (rowBytes l) (omega arith) in
-          omega (arith, is .at-is, output-rows, add-mul y 1 (rowBytes l), one-mul (rowBytes l))
+          omega (arith, is .at-is, output-rows l (served .sound), add-mul y 1 (rowBytes l), one-mul (rowBytes l))
 
       wide : length (part at (at + rowBytes l) out) ≡ at + rowBytes l - at
       wide = length-part at (at + rowBytes l) out (omega arith) (omega (arith, row-room, is .same, served .room))
@@ -69,7 +66,7 @@ module _ {l : RasterLayout} {file raw old : List ℕ} (served : Served l file ra
     pub rows-ended : l .h ≤ y → RowsRendered l file raw old out
     rows-ended end =
         let last : y ≡ l .h = omega (arith, is .inside) in
-        is .so-far ∙ ap (λ (n : ℕ). filled n (converted l file raw) old) (is .at-is ∙ ap (λ (n : ℕ). n * rowBytes l) last ∙ sym output-rows)
+        is .so-far ∙ ap (λ (n : ℕ). filled n (converted l file raw) old) (is .at-is ∙ ap (λ (n : ℕ). n * rowBytes l) last ∙ sym (output-rows l (served .sound)))
 
 -- a row whose bytes are bytes of the planes
 pub plain-row-of : {l : RasterLayout} {file raw : List ℕ} {y : ℕ} {out : List ℕ} → RowOf l file raw y out → packed l ≡ false → PlainRow l raw y out
@@ -77,7 +74,7 @@ plain-row-of row e = record { sound = row .sound; bytes = row .bytes; planes = r
 
 pub plain-row-rendered : (l : RasterLayout) (file raw : List ℕ) (y : ℕ) (out new : List ℕ) → l .palette ≡ false → eqb (l .slots) 8 ≡ false → PlainRendered l raw y out new → RowRendered l file raw y out new
 unfolding converted
-plain-row-rendered l file raw y out new off several p = p ∙ table-same (length out) _ _ (λ j h. sym (passed _ _ off ∙ passed _ _ several))
+plain-row-rendered l file raw y out new off several p = p ∙ table-same (length out) _ _ (λ j h. sym (not-picked _ _ off ∙ not-picked _ _ several))
 
 -- a palette has few colours, and its map is in the file
 pub colours-few : (l : RasterLayout) → Sound (recordFaults l) → l .colors ≤ 256

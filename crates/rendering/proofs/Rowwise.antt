@@ -3,7 +3,6 @@ use Prim.Native.Nat.{ℕ, _+_, _-_, _*_, _/_, _%_, _≤_, _<_}
 use mathlib.Core.Path.{_≡_, refl, sym, ap, _∙_}
 use mathlib.Core.Bool.{Bool, true, false, not}
 use mathlib.Core.List.{List}
-use mathlib.Core.Logic.{inl, inr}
 use native.Mathlib.Nat.{add-mul, one-mul, mul-one, mul-comm, mul-assoc, mul-le-mul-left, mul-le-mul-right, mul-mod-left, mul-div-cancel, div-add-mod', div-lt-iff-lt-mul, mod-lt}
 use native.Mathlib.Omega.{arith}
 use borrow.Author.Tests.{eq-eqb, le-ltb}
@@ -22,10 +21,10 @@ use Rattle.layout.specs.declared.RasterLayout.{RasterLayout}
 use Rattle.layout.specs.Layout.{given, byteLimit, planeChannels, planes, planeLength, scratchLength, turned, sourceIndex}
 use Rattle.layout.proofs.Whole.{record-accepted, record-agreed}
 use Rattle.layout.proofs.Placed.{grouped, stride-some, plain-one, row-is, turned-within, scratch-limited}
-use Rattle.pixels.proofs.Turned.{one-or-two, turned-in, stored-turned}
+use Rattle.pixels.proofs.Turned.{narrow-served, one-or-two, turned-in, stored-turned}
 use Rattle.pixels.proofs.Places.{stride, plane-is, together-is, apart-source, together-source}
-use Rattle.pixels.specs.Render.{OneOrTwo}
-use Rattle.rendering.specs.Rows.{rowBytes, planeRow, PlainRow, Gathered, planePlace, PlanesFit, PlanesInto}
+use Rattle.pixels.specs.Render.{rowBytes, planeRow, OneOrTwo}
+use Rattle.rendering.specs.Rows.{PlainRow, Gathered, planePlace, PlanesFit, PlanesInto}
 
 -- bytes of a part are bytes
 pub part-bytes : (a e : ℕ) (l : List ℕ) → Bytes l → Bytes (part a e l)
@@ -34,11 +33,6 @@ part-bytes a e l b i = by (decLt i (e - a))
     by : Dec (i < e - a) → getD (part a e l) i 0 < 256
     by (yes h) = rw (part-at a e l i h) (b (a + i))
     by (no h) = rw (List·getD-eq-default (part a e l) 0 {n = i} (omega (arith, length-take (e - a) (drop a l)))) (omega arith)
-
-served-these : {bytes : ℕ} → OneOrTwo bytes → served bytes ≡ true
-unfolding served
-served-these (inl e) = rw e
-served-these (inr e) = rw e
 
 -- words do not cross pixels
 turned-group : {bytes : ℕ} → OneOrTwo bytes → (le : Bool) (ch a c : ℕ) → turned bytes le (a * (ch * bytes) + c) ≡ a * (ch * bytes) + turned bytes le c
@@ -158,7 +152,7 @@ module _ {l : RasterLayout} {raw : List ℕ} {y : ℕ} {out : List ℕ} (row : P
     pub together-gathered : (answer : Done) (new : List ℕ) → Bytes raw → Reordered (part (y * planeRow l) (y * planeRow l + length out) raw) (l .bytes) (l .le) false out answer new → Gathered l raw y out new
     unfolding mine
     together-gathered answer new b p =
-        let width : served (l .bytes) ≡ true = served-these narrow in
+        let width : served (l .bytes) ≡ true = narrow-served narrow in
         let whole : length mine % l .bytes ≡ 0 = rw (long, row .room) (words-whole narrow) in
         let sound : Sound (reorderFaults mine (l .bytes) out) = next (ap not width) (next (ap not (eq-eqb _ _ whole)) (next (le-ltb (length out) (length mine) (omega (arith, long))) none)) in
         finished (reorderFaults mine (l .bytes) out) tt (length mine) (storedAt (l .bytes) false (wordOf (l .bytes) (l .le) mine)) out new sound p

@@ -9,14 +9,7 @@ use Rattle.answer.specs.Outcome.{Sound, pick}
 use Rattle.answer.specs.Table.{table, filled, stores}
 use Rattle.layout.specs.declared.RasterLayout.{RasterLayout}
 use Rattle.layout.specs.Layout.{recordFaults, packed, turned}
-use Rattle.pixels.specs.Render.{flipped, OneOrTwo, straightColour, source, plainByte, converted}
-
--- bytes of a row of the picture, and of a row of a plane
-abbrev pub rowBytes : RasterLayout → ℕ
-rowBytes l = l .w * (l .ch * l .bytes)
-
-abbrev pub planeRow : RasterLayout → ℕ
-planeRow l = l .«encoded_width» * l .«plane_channels»
+use Rattle.pixels.specs.Render.{rowBytes, flipped, OneOrTwo, straightColour, source, plainByte, converted}
 
 -- past every refusal
 pub record Served (l : RasterLayout) (file raw out : List ℕ) : Type 0 where

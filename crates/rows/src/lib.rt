@@ -8,20 +8,7 @@ use answer::Refusal;
 ghost use mathlib.Core.Path.{_≡_};
 ghost use mathlib.Core.Bool.{true};
 ghost use Rattle.words.specs.Promises.{served};
-ghost use Rattle.rows.specs.Row.{
-  RowFits,
-  RowServed,
-  Led,
-  LeadFits,
-  LedInto,
-  undoneAt,
-  predictedAt,
-  oneRow,
-  UndoneInto,
-  PredictedInto,
-  TransformedInto,
-  RowTransformed,
-};
+ghost use Rattle.rows.specs.Row.{RowFits, RowServed, Led, LeadFits, LedInto, undoneAt, predictedAt, oneRow, UndoneInto, PredictedInto, TransformedInto, RowTransformed};
 
 fn sum(raw: &[u8], width: usize, le: bool, out_le: bool, out: &mut [u8])
     requires { ⌜ (served width ≡ true) × RowFits (now raw) 1 width (now out) ⌝ }

@@ -12,7 +12,7 @@ use Rattle.answer.specs.Outcome.{pick}
 use Rattle.words.specs.Word.{modulus, plus, minus}
 use Rattle.strips.specs.Sample.{Strip, alone, summed, wordOf, sample, difference}
 
-neither : (a b : Bool) → (a || b) ≡ false → (a ≡ false) × (b ≡ false)
+pub neither : (a b : Bool) → (a || b) ≡ false → (a ≡ false) × (b ≡ false)
 neither true b e = absurd (let z : _≡_ {A = ℕ} 0 1 = cc in omega arith)
 neither false b e = (refl, e)
 

@@ -11,7 +11,7 @@ use lib.ListN.{length, getD}
 use lib.Dec.{eqb, ltb}
 use Rattle.answer.specs.Outcome.{done, refused, pick, Sound, next, none, here, doneOutcome, outputTooSmall}
 use Rattle.answer.specs.declared.Done.{Done}
-use Rattle.answer.proofs.Promised.{sound-here, sound-rest, sound-front, sound-more}
+use Rattle.answer.proofs.Promised.{sound-here, sound-rest, sound-front, sound-more, sound-back}
 use Rattle.answer.proofs.Filling.{length-table, table-at, length-stores, stores-at, stores-rest}
 use Rattle.words.specs.Word.{Bytes, turn, wordAt}
 use Rattle.words.specs.Promises.{served, wordOutcome, loadedOutcome, readFaults, ReadWord, loadWidth, loadFaults, LoadedWord}
@@ -28,7 +28,6 @@ use Rattle.strips.specs.Promises.{stripFaults, convertFaults, Converted}
 use Rattle.strips.proofs.Strips.{good-checked, width-fits}
 use Rattle.rows.specs.Row.{Put}
 use Rattle.layout.proofs.Says.{held}
-use Rattle.layout.proofs.Steps.{sound-back}
 use Rattle.upstream.specs.Native.{digit, widthOk, RangeOk, modulus, word, converted, Valid, reversed, value}
 use Rattle.upstream.specs.Clause.{Ok, Exactly}
 use Rattle.upstream.proofs.Same.{width-same, turn-same, word16-same, word-same, modulus-same, converted-same, sound-valid, valid-sound, reversed-same}

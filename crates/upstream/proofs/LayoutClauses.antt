@@ -15,7 +15,7 @@ use Rattle.answer.specs.Outcome.{refused, Fault, pick, Sound, next, none, First
 use Rattle.answer.specs.declared.ByteAt.{ByteAt}
 use Rattle.answer.specs.declared.Done.{Done}
 use Rattle.answer.specs.declared.Done.the-variants as Done-is
-use Rattle.answer.proofs.Promised.{sound-here, sound-rest, sound-front, sound-more, sound-then, first-more, refused-first}
+use Rattle.answer.proofs.Promised.{sound-here, sound-rest, sound-front, sound-more, sound-then, first-more, refused-first, sound-back}
 use Rattle.layout.specs.declared.Fields.{Fields}
 use Rattle.layout.specs.declared.RasterLayout.{RasterLayout}
 use Rattle.layout.specs.declared.Checked.{Checked}
@@ -25,7 +25,6 @@ use Rattle.layout.specs.declared.Place.the-variants as Place-is
 use Rattle.layout.specs.Layout.{given, byteLimit, recordFaults, indexFaults, placeOutcome, LayoutChecked, RecordChecked, Indexed}
 use Rattle.layout.specs.Layout as Ours
 use Rattle.layout.specs.Valid.{Valid, Within}
-use Rattle.layout.proofs.Steps.{sound-back}
 use Rattle.layout.proofs.Placed.{scratch-limited}
 use Rattle.layout.proofs.Theorems as Theorems
 use Rattle.pixels.specs.Render.{renderFaults, Rendered}

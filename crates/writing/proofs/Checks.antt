@@ -5,10 +5,9 @@ use mathlib.Core.List.{List}
 use borrow.Author.Tests.{ltb-false}
 use lib.ListN.{length, drop}
 use Rattle.answer.specs.Outcome.{Fault, Sound, First, unless, done, refused, next}
-use Rattle.answer.proofs.Promised.{refusing, finishing, sound-then, sound-more, sound-front}
+use Rattle.answer.proofs.Promised.{refusing, finishing, sound-then, sound-more, sound-front, sound-back}
 use Rattle.layout.specs.declared.RasterLayout.{RasterLayout}
 use Rattle.layout.specs.Layout.{recordFaults}
-use Rattle.layout.proofs.Steps.{sound-back}
 use Rattle.pixels.specs.Planes.{writeFaults}
 use Rattle.writing.specs.Parts.{Served}
 

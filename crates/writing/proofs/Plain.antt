@@ -3,7 +3,6 @@ use Prim.Native.Nat.{ℕ, _-_, _%_, _<_}
 use mathlib.Core.Path.{_≡_, refl, sym, ap, _∙_}
 use mathlib.Core.Bool.{Bool, true, false, not}
 use mathlib.Core.List.{List}
-use mathlib.Core.Logic.{inl, inr}
 use native.Mathlib.Omega.{arith}
 use borrow.Author.Tests.{eq-eqb, ne-eqb, le-ltb}
 use lib.ListN.{length, getD}
@@ -14,16 +13,15 @@ use Rattle.answer.specs.declared.Done.{Done}
 use Rattle.answer.proofs.Promised.{finished}
 use Rattle.answer.proofs.Filling.{table-at, table-same, table-self, length-table, filled-all}
 use Rattle.words.specs.Word.{Bytes}
-use Rattle.words.specs.Promises.{served}
 use Rattle.strips.specs.Sample.{wordOf, storedAt}
 use Rattle.strips.specs.Promises.{reorderFaults, Reordered}
 use Rattle.layout.specs.declared.RasterLayout.{RasterLayout}
 use Rattle.layout.specs.Layout.{turned}
 use Rattle.pixels.specs.Render.{flipped}
 use Rattle.pixels.specs.Finish.{Inverted, straightAt, straightFaults, Straightened, WholePixels}
-use Rattle.pixels.specs.Render.{OneOrTwo}
-use Rattle.pixels.proofs.Turned.{stored-turned}
-use Rattle.writing.specs.Parts.{turnsOver, TurnedOver, PlainFits, PlainRow}
+use Rattle.pixels.proofs.Turned.{narrow-served, stored-turned}
+use Rattle.pixels.specs.Planes.{turnsOver}
+use Rattle.writing.specs.Parts.{TurnedOver, PlainFits, PlainRow}
 
 -- white, with no alpha, beside alpha, and none
 module _ (l : RasterLayout) (old : List ℕ) where
@@ -48,14 +46,9 @@ module _ (l : RasterLayout) (old : List ℕ) where
 
 -- such a row
 module _ {l : RasterLayout} {row old : List ℕ} (fits : PlainFits l row old) (b : Bytes row) where
-  widths : (bytes : ℕ) → OneOrTwo bytes → not (served bytes) ≡ false
-  unfolding served
-  widths bytes (inl e) = rw e
-  widths bytes (inr e) = rw e
-
   faultless : Sound (reorderFaults row (l .bytes) old)
   faultless =
-      next (widths (l .bytes) (fits .width)) (next (ap not (eq-eqb _ _ (fits .words))) (next (le-ltb (length old) (length row) (omega (arith, fits .room))) none))
+      next (ap not (narrow-served (fits .width))) (next (ap not (eq-eqb _ _ (fits .words))) (next (le-ltb (length old) (length row) (omega (arith, fits .room))) none))
 
   module _ (answer : Done) (mid : List ℕ) (p : Reordered row (l .bytes) false (l .le) old answer mid) where
     ordered : mid ≡ table (length row) (storedAt (l .bytes) (l .le) (wordOf (l .bytes) false row))

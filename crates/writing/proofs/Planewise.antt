@@ -20,10 +20,10 @@ use Rattle.layout.proofs.Sizes.{bytes-few}
 use Rattle.layout.proofs.Placed.{output-is, scratch-limited}
 use Rattle.pixels.specs.Render.{flipped}
 use Rattle.pixels.specs.Finish.{Inverted}
-use Rattle.pixels.specs.Planes.{placeIndex, flips, written}
+use Rattle.pixels.specs.Planes.{turnsOver, placeIndex, flips, written}
 use Rattle.pixels.proofs.Places.{group-of, item-of, plane-is, apart-place}
-use Rattle.pixels.proofs.Undo.{passed}
-use Rattle.writing.specs.Parts.{planar, turnsOver, channelAt, ChannelFits, ChannelInto, PlaneOf, PlaneWritten, Apart, WrittenInto}
+use Rattle.pixels.proofs.Undo.{not-picked}
+use Rattle.writing.specs.Parts.{planar, channelAt, ChannelFits, ChannelInto, PlaneOf, PlaneWritten, Apart, WrittenInto}
 use Rattle.pixels.proofs.Turned.{one-or-two, turned-in}
 
 module _ (l : RasterLayout) (s : Sound (recordFaults l)) (narrow : eqb (l .bytes) 8 ≡ false) (apart : planar l ≡ true) where
@@ -73,7 +73,7 @@ module _ (l : RasterLayout) (s : Sound (recordFaults l)) (narrow : eqb (l .bytes
     plane-byte : (j : ℕ) → j < l .«plane_len» → written l picture (c * l .«plane_len» + j) ≡ flipped (turnsOver l c) (channelAt picture (c * l .bytes) (l .ch * l .bytes) (l .bytes) (l .le) j)
     unfolding written
     plane-byte j h =
-        passed _ _ (separated .1)
+        not-picked _ _ (separated .1)
         ∙ ap (λ (b : Bool). flipped b (getD picture (placeIndex l (c * l .«plane_len» + j)) 0)) (over-plane j h)
         ∙ ap (λ (k : ℕ). flipped (turnsOver l c) (getD picture k 0)) (place-of j h)
 

@@ -21,14 +21,14 @@ use Rattle.layout.proofs.Says.{clash, refuted, up, down, both}
 use Rattle.layout.proofs.Accepted.{bilevel, alpha-bytes}
 use Rattle.layout.proofs.Whole.{record-accepted, record-agreed}
 use Rattle.layout.proofs.Sizes.{bytes-few, encoded-side}
-use Rattle.layout.proofs.Placed.{stride-some, output-is, row-is, plain-one, scratch-limited}
-use Rattle.pixels.specs.Render.{flipped}
-use Rattle.pixels.specs.Planes.{placeIndex, flips, bilevelBit, bilevelPlane, written}
-use Rattle.pixels.proofs.Places.{group-of, item-of, together-is, together-place}
-use Rattle.pixels.proofs.Undo.{picked, passed, bilevel-scratch}
+use Rattle.layout.proofs.Placed.{stride-some, row-is, plain-one, scratch-limited}
+use Rattle.pixels.specs.Render.{rowBytes, planeRow, flipped}
+use Rattle.pixels.specs.Planes.{turnsOver, placeIndex, flips, bilevelBit, bilevelPlane, written}
+use Rattle.pixels.proofs.Places.{output-rows, group-of, item-of, together-is, together-place}
+use Rattle.pixels.proofs.Undo.{picked, not-picked, bilevel-scratch}
 use Rattle.packed.specs.Rows.{eighths, packedAt, packFaults, PackRow}
 use Rattle.pixels.specs.Render.{OneOrTwo}
-use Rattle.writing.specs.Parts.{planar, turnsOver, rowBytes, planeRow, PlainFits, PlainRow, RowOf, rowAt, RowWritten, Together, WrittenInto}
+use Rattle.writing.specs.Parts.{planar, PlainFits, PlainRow, RowOf, rowAt, RowWritten, Together, WrittenInto}
 use Rattle.pixels.proofs.Turned.{one-or-two, turned-in, turned-below}
 
 -- a row has whole words and whole pixels
@@ -74,10 +74,7 @@ module _ (l : RasterLayout) (s : Sound (recordFaults l)) (bare : l .palette ≡ 
   plain-row-same : packed l ≡ false → planeRow l ≡ rowBytes l
   plain-row-same plain = rw (place-wide, row-is l s plain)
 
-  -- the lengths by rows
-  output-rows : l .«output_len» ≡ l .h * rowBytes l
-  output-rows = output-is l s ∙ ap (λ (n : ℕ). n * (l .ch * l .bytes)) (mul-comm (l .w) (l .h)) ∙ mul-assoc (l .h) (l .w) (l .ch * l .bytes)
-
+  -- the length by rows
   scratch-rows : l .«scratch_len» ≡ l .h * planeRow l
   scratch-rows = by shape
     where
@@ -168,7 +165,7 @@ module _ (l : RasterLayout) (s : Sound (recordFaults l)) (bare : l .palette ≡ 
           let inside = turned-below (l .bytes) width (l .le) (rowBytes l) j (row-words l) h in
           ap (flipped (turnsOver l (j % l .ch))) (part-at (y * rowBytes l) (y * rowBytes l + rowBytes l) picture (turned (l .bytes) (l .le) j) (omega arith) ∙ ap (λ (k : ℕ). getD picture k 0) (sym row-place))
           ∙ ap (λ (b : Bool). flipped b (getD picture (placeIndex l (y * rowBytes l + j)) 0)) (sym over-row)
-          ∙ sym (passed _ _ several)
+          ∙ sym (not-picked _ _ several)
 
   -- whichever it is
   module _ (narrow : eqb (l .bytes) 8 ≡ false) where
@@ -179,7 +176,7 @@ module _ (l : RasterLayout) (s : Sound (recordFaults l)) (bare : l .palette ≡ 
         by (inl e) = picked _ _ (eq-eqb (l .slots) 8 e) ∙ packed-byte e picture y inside j h
         by (inr q) =
             let same = plain-row-same (q .0) in
-            passed _ _ (several (q .0) (q .1) narrow)
+            not-picked _ _ (several (q .0) (q .1) narrow)
             ∙ plain-byte (q .0) (q .1) narrow picture y j (omega arith)
             ∙ ap (λ (n : ℕ). written l picture (y * n + j)) (sym same)
 
@@ -209,7 +206,7 @@ module _ {l : RasterLayout} {row old : List ℕ} (fits : RowOf l row old) where
         }
 
     pub row-plain : (new : List ℕ) → PlainRow l row old new → RowWritten l row old new
-    row-plain new p = p ∙ table-same (length old) _ _ (λ j h. sym (passed _ _ (ne-eqb (l .slots) 8 n)))
+    row-plain new p = p ∙ table-same (length old) _ _ (λ j h. sym (not-picked _ _ (ne-eqb (l .slots) 8 n)))
 
 -- the loop over the rows
 pub record Rowwise (l : RasterLayout) (picture old : List ℕ) (from at y : ℕ) (out : List ℕ) : Type 0 where
@@ -234,7 +231,7 @@ module _ {l : RasterLayout} {picture old : List ℕ} {from at y : ℕ} {out : Li
         let read : (y + 1) * rowBytes l ≤ l .h * rowBytes l = mul-le-mul-right (rowBytes l) (omega arith) in
         let wrote : (y + 1) * planeRow l ≤ l .h * planeRow l = mul-le-mul-right (planeRow l) (omega arith) in
         let end : at + planeRow l ≤ l .«scratch_len» = omega (arith, is .at-is, add-mul y 1 (planeRow l), one-mul (planeRow l), scratch) in
-        (omega (arith, is .from-is, add-mul y 1 (rowBytes l), one-mul (rowBytes l), output-rows l (served .sound) (served .bare) (fits .together), served .all), (omega (arith, served .room), omega (arith, scratch-limited l (served .sound))))
+        (omega (arith, is .from-is, add-mul y 1 (rowBytes l), one-mul (rowBytes l), output-rows l (served .sound), served .all), (omega (arith, served .room), omega (arith, scratch-limited l (served .sound))))
 
     pub row-fits : RowOf l (part from (from + rowBytes l) picture) (part at (at + planeRow l) out)
     row-fits =

@@ -1,7 +1,7 @@
 -- What the private functions need and do: the checks, planes one after another, and rows where the planes are one. Assumes nothing.
 use Prim.Native.Nat.{ℕ, _+_, _-_, _*_, _/_, _%_, _≤_, _<_}
 use mathlib.Core.Path.{_≡_}
-use mathlib.Core.Bool.{Bool, true, false, not, _&&_, _||_}
+use mathlib.Core.Bool.{Bool, true, false, not, _&&_}
 use mathlib.Core.List.{List}
 use lib.ListN.{length, getD}
 use lib.Dec.{eqb}
@@ -10,9 +10,8 @@ use Rattle.answer.specs.Table.{table, filled}
 use Rattle.answer.specs.declared.Done.{Done}
 use Rattle.layout.specs.declared.RasterLayout.{RasterLayout}
 use Rattle.layout.specs.Layout.{recordFaults, turned}
-use Rattle.pixels.specs.Render.{flipped}
-use Rattle.pixels.specs.Render.{OneOrTwo}
-use Rattle.pixels.specs.Planes.{writeFaults, written}
+use Rattle.pixels.specs.Render.{rowBytes, planeRow, flipped, OneOrTwo}
+use Rattle.pixels.specs.Planes.{turnsOver, writeFaults, written}
 use Rattle.packed.specs.Rows.{packedAt}
 
 -- whether the planes can be written
@@ -33,10 +32,6 @@ WrittenInto l picture old new = new ≡ filled (l .«scratch_len») (written l p
 -- channels stand in planes of their own
 abbrev pub planar : RasterLayout → Bool
 planar l = l .separate && not (eqb (l .slots) 8)
-
--- white turns channel c over
-abbrev pub turnsOver : RasterLayout → ℕ → Bool
-turnsOver l c = l .white && (eqb (l .alpha) 0 || not (eqb c (l .ch - 1)))
 
 -- byte j of one channel of the pixels of a picture, whose first byte stands at `first`
 abbrev pub channelAt : List ℕ → ℕ → ℕ → ℕ → Bool → ℕ → ℕ
@@ -66,13 +61,6 @@ PlaneWritten l picture c old new = new ≡ table (length old) (λ j. written l p
 pub record Apart (l : RasterLayout) (picture planes : List ℕ) : Type 0 where
   pub served : Served l picture planes
   pub apart : planar l ≡ true
-
--- bytes of a row of the picture, and of a row of the planes where they are one
-abbrev pub rowBytes : RasterLayout → ℕ
-rowBytes l = l .w * (l .ch * l .bytes)
-
-abbrev pub planeRow : RasterLayout → ℕ
-planeRow l = l .«encoded_width» * l .«plane_channels»
 
 -- pixels whose bytes stand together, turned over by white
 abbrev pub TurnedOver : RasterLayout → List ℕ → List ℕ → Type 0

@@ -3,7 +3,8 @@ use layout::RasterLayout;
 ghost use mathlib.Core.Path.{_≡_};
 ghost use Prim.Native.Nat.{_<_};
 ghost use Rattle.pixels.specs.Render.{OneOrTwo};
-ghost use Rattle.writing.specs.Parts.{turnsOver, ChannelFits, ChannelInto, PlaneOf, PlaneWritten, Apart, WrittenInto};
+ghost use Rattle.pixels.specs.Planes.{turnsOver};
+ghost use Rattle.writing.specs.Parts.{ChannelFits, ChannelInto, PlaneOf, PlaneWritten, Apart, WrittenInto};
 
 // One channel of every pixel: a byte of each.
 fn channel1(picture: &[u8], first: usize, stride: usize, le: bool, out: &mut [u8])

@@ -2,11 +2,10 @@
 use borrow.Author.Needs.{needs}
 use borrow.Author.Tests.{lt-ltb, le-ltb}
 use native.Mathlib.Omega.{arith}
-use mathlib.Core.Path.{ap, _∙_, sym}
 use lib.ListN.{length}
 use denote.Ref.{now}
-use Rattle.answer.specs.Outcome.{here, next, none, Sound, doneOutcome}
-use Rattle.answer.proofs.Promised.{refuses, done-sound, first-more, sound-then, sound-more, refused-told}
+use Rattle.answer.specs.Outcome.{here, next, none, Sound}
+use Rattle.answer.proofs.Promised.{passed, stopped, refuses, first-more, sound-then, sound-more}
 use Rattle.strips.specs.Sample.{strip}
 use Rattle.strips.specs.Promises.{stripFaults}
 use Rattle.strips.proofs.Strips.{good-checked}
@@ -25,22 +24,22 @@ enum-told : tie.Need-enum-told
 enum-told c = search needs
 
 -- the check found no fault
-passed : (c : tie.After-enum-told) → let args = c .before .before .before .before .before .args in Sound (stripFaults (length (now (args .damage))) (strip (args .row-bytes) (args .channels) (args .width)))
-passed c =
+checked : (c : tie.After-enum-told) → let args = c .before .before .before .before .before .args in Sound (stripFaults (length (now (args .damage))) (strip (args .row-bytes) (args .channels) (args .width)))
+checked c =
     let args = c .before .before .before .before .before .args in
-    done-sound (stripFaults (length (now (args .damage))) (strip (args .row-bytes) (args .channels) (args .width))) tt tt (sym (c .before .before .check-strip .ensures) ∙ ap doneOutcome (c .enum-told .given .1))
+    passed (stripFaults (length (now (args .damage))) (strip (args .row-bytes) (args .channels) (args .width))) (c .before .before .check-strip .result) (c .before .before .check-strip .ensures) (c .enum-told .given .1)
 
 div-samples : tie.Need-div-samples
 div-samples c =
     let args = c .before .before .before .before .before .args in
-    good-checked (length (now (args .damage))) (strip (args .row-bytes) (args .channels) (args .width)) (passed c) .wide
+    good-checked (length (now (args .damage))) (strip (args .row-bytes) (args .channels) (args .width)) (checked c) .wide
 
 returns : tie.Need-returns
 returns c =
     let args = c .before .before .before .before .before .before .args in
     let g = strip (args .row-bytes) (args .channels) (args .width) in
     exactly (now (args .damage)) g (args .predict) (now (args .marks)) _ _
-    (refuses (markFaults (now (args .damage)) g (now (args .marks))) _ _ _ (sound-then (passed (c .before)) (here (lt-ltb (length (now (args .marks))) (samplesOf (now (args .damage)) g) (omega (arith, c .if1 .taken))))))
+    (refuses (markFaults (now (args .damage)) g (now (args .marks))) _ _ _ (sound-then (checked (c .before)) (here (lt-ltb (length (now (args .marks))) (samplesOf (now (args .damage)) g) (omega (arith, c .if1 .taken))))))
 
 sub-mark-strip : tie.Need-sub-mark-strip
 sub-mark-strip c = search needs
@@ -54,7 +53,7 @@ part-mark-strip-end c = search needs
 mark-strip-requires : tie.Need-mark-strip-requires
 mark-strip-requires c κs =
     let args = c .before .before .before .before .before .before .before .args in
-    front-fits (now (args .damage)) (strip (args .row-bytes) (args .channels) (args .width)) (now (args .marks)) (passed (c .before .before)) (omega (arith, c .before .if1 .left))
+    front-fits (now (args .damage)) (strip (args .row-bytes) (args .channels) (args .width)) (now (args .marks)) (checked (c .before .before)) (omega (arith, c .before .if1 .left))
 
 returns-2 : tie.Need-returns-2
 returns-2 c =
@@ -62,7 +61,7 @@ returns-2 c =
     let g = strip (args .row-bytes) (args .channels) (args .width) in
     exactly (now (args .damage)) g (args .predict) (now (args .marks)) _ _
     (refuses (markFaults (now (args .damage)) g (now (args .marks))) _ _ _
-    (first-more _ (refused-told (stripFaults (length (now (args .damage))) g) tt (c .before .k .given .0 .0) (ap doneOutcome (sym (c .before .k .given .1)) ∙ c .before .before .before .check-strip .ensures))))
+    (first-more _ (stopped (stripFaults (length (now (args .damage))) g) (c .before .before .before .check-strip .result) (c .before .k .given .0 .0) (c .before .before .before .check-strip .ensures) (c .before .k .given .1))))
 
 same-length : tie.Need-same-length
 same-length c = search needs
@@ -73,7 +72,7 @@ returns-3 c =
     let g = strip (args .row-bytes) (args .channels) (args .width) in
     let left = c .before .before .before .before .if1 .left in
     marks-done (now (args .damage)) g (args .predict) (now (args .marks)) _ _
-    (sound-more (passed (c .before .before .before .before .before)) (next (le-ltb (length (now (args .marks))) (samplesOf (now (args .damage)) g) (omega arith)) none))
+    (sound-more (checked (c .before .before .before .before .before)) (next (le-ltb (length (now (args .marks))) (samplesOf (now (args .damage)) g) (omega arith)) none))
     (omega arith)
     (c .before .before .mark-strip .ensures)
 

@@ -3,9 +3,9 @@ use borrow.Author.Needs.{needs}
 use mathlib.Core.Path.{sym, _∙_}
 use mathlib.Core.List.{_++_}
 use Rattle.answer.specs.Outcome.{Sound}
-use Rattle.answer.proofs.Promised.{refusing, sound-front, first-more}
+use Rattle.answer.proofs.Promised.{refusing, sound-front, first-more, passed, stopped, sound-skip}
 use Rattle.layout.specs.Layout.{servedFaults, agreedFaults, sizeFaults, layoutFaults, StepPassed}
-use Rattle.layout.proofs.Steps.{in-turn, passed, stopped, sound-skip}
+use Rattle.layout.proofs.Steps.{in-turn}
 use Rattle.layout.proofs.check_fields.Statement.{statement}
 use Rattle.layout.proofs.check_fields.Tie as tie
 

@@ -2,10 +2,9 @@
 use borrow.Author.Needs.{needs}
 use mathlib.Core.Path.{ap, _∙_}
 use Rattle.answer.specs.Outcome.{done, Sound}
-use Rattle.answer.proofs.Promised.{refusing, finishing}
+use Rattle.answer.proofs.Promised.{refusing, finishing, passed, stopped}
 use Rattle.layout.specs.declared.Fields.{Fields}
 use Rattle.layout.specs.Layout.{fields, layoutFaults, completed}
-use Rattle.layout.proofs.Steps.{passed, stopped}
 use Rattle.layout.proofs.check_layout.Statement.{statement}
 use Rattle.layout.proofs.check_layout.Tie as tie
 

@@ -3,10 +3,9 @@ use borrow.Author.Needs.{needs}
 use mathlib.Core.Path.{_≡_, sym, ap, _∙_}
 use mathlib.Core.Bool.{not}
 use Rattle.answer.specs.Outcome.{Sound, here, next, none}
-use Rattle.answer.proofs.Promised.{refusing, finishing, first-more, sound-then, sound-more}
+use Rattle.answer.proofs.Promised.{refusing, finishing, first-more, sound-then, sound-more, passed, stopped}
 use Rattle.layout.specs.Layout.{given as givenOf, layoutFaults, recordFaults, completed, agreement, StepPassed}
 use Rattle.layout.proofs.Says.{held}
-use Rattle.layout.proofs.Steps.{passed, stopped}
 use Rattle.layout.proofs.check_record.Statement.{statement}
 use Rattle.layout.proofs.check_record.Tie as tie
 

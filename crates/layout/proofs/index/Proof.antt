@@ -4,9 +4,8 @@ use borrow.Author.Tests.{le-leb, lt-leb}
 use mathlib.Core.Path.{ap, _∙_}
 use native.Mathlib.Omega.{arith}
 use Rattle.answer.specs.Outcome.{done, Sound, here, next, none}
-use Rattle.answer.proofs.Promised.{refusing, finishing, first-more, sound-then, sound-more}
+use Rattle.answer.proofs.Promised.{refusing, finishing, first-more, sound-then, sound-more, passed, stopped}
 use Rattle.layout.specs.Layout.{recordFaults, indexFaults, sourceIndex}
-use Rattle.layout.proofs.Steps.{passed, stopped}
 use Rattle.layout.proofs.index.Statement.{statement}
 use Rattle.layout.proofs.index.Tie as tie
 

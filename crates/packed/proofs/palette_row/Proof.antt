@@ -7,13 +7,12 @@ use native.Mathlib.Omega.{arith}
 use lib.ListN.{length}
 use denote.Ref.{now}
 use Rattle.answer.specs.Outcome.{Sound}
-use Rattle.answer.proofs.Promised.{refuses, finishes}
+use Rattle.answer.proofs.Promised.{refuses, finishes, passed, stopped}
 use Rattle.words.specs.Word.{Bytes}
 use Rattle.layout.specs.Layout.{oneTwoEight}
-use Rattle.layout.proofs.Steps.{passed, stopped}
-use Rattle.pixels.specs.Render.{highByte}
+use Rattle.pixels.proofs.Turned.{high-few}
 use Rattle.packed.specs.Rows.{paletteAt, paletteFaults, PaintFits}
-use Rattle.packed.proofs.Painting.{high-few, colours-few, paint-fits, palette-filled}
+use Rattle.packed.proofs.Painting.{colours-few, paint-fits, palette-filled}
 use Rattle.packed.proofs.palette_row.Statement.{statement}
 use Rattle.packed.proofs.palette_row.Tie as tie
 

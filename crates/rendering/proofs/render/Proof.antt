@@ -9,9 +9,8 @@ use lib.ListN.{length}
 use lib.Dec.{eqb, ltb}
 use denote.Ref.{now}
 use Rattle.answer.specs.Outcome.{here, later, next, none, Sound}
-use Rattle.answer.proofs.Promised.{refuses, finishes, first-more, sound-then, sound-more}
+use Rattle.answer.proofs.Promised.{refuses, finishes, first-more, sound-then, sound-more, passed, stopped}
 use Rattle.layout.specs.Layout.{recordFaults}
-use Rattle.layout.proofs.Steps.{passed, stopped}
 use Rattle.pixels.specs.Render.{renderFaults, converted}
 use Rattle.rendering.proofs.Picture.{colours-few, map-inside}
 use Rattle.rendering.proofs.render.Statement.{statement}

@@ -1,11 +1,11 @@
 -- `rows::transform_row` meets its promise: the strip check's faults first, then the room. Assumes nothing.
 use borrow.Author.Needs.{needs}
 use borrow.Author.Tests.{lt-ltb, le-ltb}
-use mathlib.Core.Path.{ap, _∙_, sym}
+use native.Mathlib.Omega.{arith}
 use lib.ListN.{length}
 use denote.Ref.{now}
-use Rattle.answer.specs.Outcome.{here, next, none, Sound, doneOutcome}
-use Rattle.answer.proofs.Promised.{refuses, finishes, done-sound, first-more, sound-then, sound-more, refused-told}
+use Rattle.answer.specs.Outcome.{here, next, none, Sound}
+use Rattle.answer.proofs.Promised.{passed, stopped, refuses, finishes, first-more, sound-then, sound-more}
 use Rattle.strips.specs.Sample.{storedAt}
 use Rattle.strips.specs.Promises.{stripFaults, convertFaults}
 use Rattle.rows.specs.Row.{oneRow, meant}
@@ -26,12 +26,12 @@ enum-told c = search needs
 checked : (c : tie.After-enum-told) → let args = c .before .before .before .before .before .args in Sound (stripFaults (length (now (args .raw))) (oneRow (now (args .raw)) (args .channels) (args .width)))
 checked c =
     let args = c .before .before .before .before .before .args in
-    done-sound (stripFaults (length (now (args .raw))) (oneRow (now (args .raw)) (args .channels) (args .width))) tt tt (sym (c .before .before .check-strip .ensures) ∙ ap doneOutcome (c .enum-told .given .1))
+    passed (stripFaults (length (now (args .raw))) (oneRow (now (args .raw)) (args .channels) (args .width))) (c .before .before .check-strip .result) (c .before .before .check-strip .ensures) (c .enum-told .given .1)
 
 returns : tie.Need-returns
 returns c =
     let args = c .before .before .before .before .before .before .args in
-    refuses (convertFaults (now (args .raw)) (oneRow (now (args .raw)) (args .channels) (args .width)) (now (args .out))) tt _ _ (sound-then (checked (c .before)) (here (lt-ltb _ _ (c .if1 .taken))))
+    refuses (convertFaults (now (args .raw)) (oneRow (now (args .raw)) (args .channels) (args .width)) (now (args .out))) tt _ _ (sound-then (checked (c .before)) (here (lt-ltb (length (now (args .out))) (length (now (args .raw))) (omega (arith, c .if1 .taken)))))
 
 transform-words-requires : tie.Need-transform-words-requires
 transform-words-requires c κs =
@@ -43,7 +43,7 @@ returns-2 c =
     let args = c .before .before .before .before .before .before .args in
     let check = stripFaults (length (now (args .raw))) (oneRow (now (args .raw)) (args .channels) (args .width)) in
     refuses (convertFaults (now (args .raw)) (oneRow (now (args .raw)) (args .channels) (args .width)) (now (args .out))) tt _ _
-    (first-more _ (refused-told check tt (c .before .k .given .0 .0) (ap doneOutcome (sym (c .before .k .given .1)) ∙ c .before .before .before .check-strip .ensures)))
+    (first-more _ (stopped check (c .before .before .before .check-strip .result) (c .before .k .given .0 .0) (c .before .before .before .check-strip .ensures) (c .before .k .given .1)))
 
 same-length : tie.Need-same-length
 same-length c = search needs
@@ -52,7 +52,7 @@ returns-3 : tie.Need-returns-3
 returns-3 c =
     let args = c .before .before .before .before .before .before .before .before .before .before .args in
     finishes (convertFaults (now (args .raw)) (oneRow (now (args .raw)) (args .channels) (args .width)) (now (args .out))) tt (length (now (args .raw))) (storedAt (args .width) (args .out-le) (meant (args .forward) (oneRow (now (args .raw)) (args .channels) (args .width)) (args .predict) (args .le) (now (args .raw)))) _ _
-    (sound-more (checked (c .before .before .before .before .before)) (next (le-ltb _ _ (c .before .before .before .before .if1 .left)) none)) (c .before .before .transform-words .ensures)
+    (sound-more (checked (c .before .before .before .before .before)) (next (le-ltb (length (now (args .out))) (length (now (args .raw))) (omega (arith, c .before .before .before .before .if1 .left))) none)) (c .before .before .transform-words .ensures)
 
 pub transform-row-spec : {M : Type 1} → statement M
 transform-row-spec = tie.close (tie.spec check-strip-requires enum-known-k enum-told returns transform-words-requires returns-2 same-length returns-3)

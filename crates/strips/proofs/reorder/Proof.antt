@@ -42,17 +42,20 @@ returns-3 : tie.Need-returns-3
 returns-3 c =
     let args = c .before .before .before .before .before .before .args in
     refuses (reorderFaults (now (args .raw)) (args .width) (now (args .out))) tt _ _
-    (later (ap not (allowed (c .before .before))) (later (ap not (eq-eqb _ _ (c .before .if2 .left))) (here (lt-ltb _ _ (c .if3 .taken)))))
+    (later (ap not (allowed (c .before .before))) (later (ap not (eq-eqb _ _ (c .before .if2 .left))) (here (lt-ltb (length (now (args .out))) (length (now (args .raw))) (omega (arith, c .if3 .taken))))))
 
 -- past every test there is no fault, of this call or of those that it hands on
 sound : (c : tie.Else3) → let args = c .before .before .before .before .before .before .args in Sound (reorderFaults (now (args .raw)) (args .width) (now (args .out)))
-sound c = next (ap not (allowed (c .before .before))) (next (ap not (eq-eqb _ _ (c .before .if2 .left))) (next (le-ltb _ _ (c .if3 .left)) none))
+sound c =
+    let args = c .before .before .before .before .before .before .args in
+    next (ap not (allowed (c .before .before))) (next (ap not (eq-eqb _ _ (c .before .if2 .left))) (next (le-ltb (length (now (args .out))) (length (now (args .raw))) (omega (arith, c .if3 .left))) none))
 
 swap-sound : (c : tie.Else3) → let args = c .before .before .before .before .before .before .args in Sound (swapFaults (now (args .raw)) (args .width) (now (args .out)))
 swap-sound c =
+    let args = c .before .before .before .before .before .before .args in
     let wide = served-some _ (allowed (c .before .before)) in
-    let some : c .before .before .before .before .before .before .args .width ≡ 0 → ⊥ = λ z. omega arith in
-    next (ne-eqb _ _ some) (next (le-ltb _ _ (wide .1)) (next (ap not (eq-eqb _ _ (c .before .if2 .left))) (next (le-ltb _ _ (c .if3 .left)) none)))
+    let some : args .width ≡ 0 → ⊥ = λ z. omega arith in
+    next (ne-eqb _ _ some) (next (le-ltb _ _ (wide .1)) (next (ap not (eq-eqb _ _ (c .before .if2 .left))) (next (le-ltb (length (now (args .out))) (length (now (args .raw))) (omega (arith, c .if3 .left))) none)))
 
 bytes : (c : tie.Else3) → let args = c .before .before .before .before .before .before .args in Bytes (now (args .raw))
 bytes c i = omega (arith, c .before .before .before .before .before .shared-slice-known .given i)
@@ -86,7 +89,7 @@ returns-5 c =
     let past = c .before .before .before .before .before .before in
     let args = past .before .before .before .before .before .before .args in
     let wide = served-some _ (allowed (past .before .before)) .0 in
-    hands-on (commitFaults (now (args .raw)) (now (args .out))) (reorderFaults (now (args .raw)) (args .width) (now (args .out))) tt _ _ (now (args .out)) _ _ (next (le-ltb _ _ (past .if3 .left)) none) (sound past)
+    hands-on (commitFaults (now (args .raw)) (now (args .out))) (reorderFaults (now (args .raw)) (args .width) (now (args .out))) tt _ _ (now (args .out)) _ _ (next (le-ltb (length (now (args .out))) (length (now (args .raw))) (omega (arith, past .if3 .left))) none) (sound past)
     (sym (table-same (length (now (args .raw))) _ _ (λ k h. same-order (now (args .raw)) (bytes past) (args .width) wide k (args .le) (args .out-le) (sym (c .before .before .before .before .before .orders-differ .ensures) ∙ c .before .before .before .before .if4 .left))))
     (c .before .before .commit-uninit .ensures)
 

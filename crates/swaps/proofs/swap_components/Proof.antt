@@ -37,13 +37,14 @@ returns-4 c =
     let args = c .before .before .before .before .before .before .args in
     refuses (swapFaults (now (args .raw)) (args .width) (now (args .out))) tt _ _
     (later (ne-eqb _ _ (c .before .before .before .if1 .left))
-    (later (le-ltb _ _ (c .before .before .if2 .left)) (later (ap not (eq-eqb _ _ (c .before .if3 .left))) (here (lt-ltb _ _ (c .if4 .taken))))))
+    (later (le-ltb _ _ (c .before .before .if2 .left)) (later (ap not (eq-eqb _ _ (c .before .if3 .left))) (here (lt-ltb (length (now (args .out))) (length (now (args .raw))) (omega (arith, c .if4 .taken)))))))
 
 -- past every test there is no fault
 sound : (c : tie.Else4) → let args = c .before .before .before .before .before .before .args in Sound (swapFaults (now (args .raw)) (args .width) (now (args .out)))
 sound c =
+    let args = c .before .before .before .before .before .before .args in
     next (ne-eqb _ _ (c .before .before .before .if1 .left))
-    (next (le-ltb _ _ (c .before .before .if2 .left)) (next (ap not (eq-eqb _ _ (c .before .if3 .left))) (next (le-ltb _ _ (c .if4 .left)) none)))
+    (next (le-ltb _ _ (c .before .before .if2 .left)) (next (ap not (eq-eqb _ _ (c .before .if3 .left))) (next (le-ltb (length (now (args .out))) (length (now (args .raw))) (omega (arith, c .if4 .left))) none)))
 
 swap-groups-requires : tie.Need-swap-groups-requires
 swap-groups-requires c κs = record { some = omega arith; few = omega arith; groups = c .before .before .if3 .left; room = omega arith }

@@ -1,9 +1,8 @@
 -- `writing::check_write` meets its contract: the record's refusal, then the others. Assumes nothing.
 use borrow.Author.Needs.{needs}
 use denote.Ref.{now}
-use Rattle.answer.proofs.Promised.{refusing, first-more}
+use Rattle.answer.proofs.Promised.{refusing, first-more, passed, stopped}
 use Rattle.layout.specs.Layout.{recordFaults}
-use Rattle.layout.proofs.Steps.{passed, stopped}
 use Rattle.writing.proofs.Checks.{planesFaults}
 use Rattle.writing.proofs.check_write.Statement.{statement}
 use Rattle.writing.proofs.check_write.Tie as tie

@@ -2,8 +2,7 @@
 use borrow.Author.Needs.{needs}
 use denote.Ref.{now}
 use Rattle.answer.specs.Outcome.{Sound}
-use Rattle.answer.proofs.Promised.{refuses, finishes}
-use Rattle.layout.proofs.Steps.{passed, stopped}
+use Rattle.answer.proofs.Promised.{refuses, finishes, passed, stopped}
 use Rattle.pixels.specs.Planes.{writeFaults, written}
 use Rattle.writing.proofs.Checks.{shown-served}
 use Rattle.writing.proofs.write_planes.Statement.{statement}

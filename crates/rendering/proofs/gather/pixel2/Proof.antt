@@ -3,9 +3,8 @@ use borrow.Author.Needs.{needs}
 use native.Mathlib.Omega.{arith}
 use Prim.Native.Nat.{_+_, _-_, _*_, _≤_}
 use mathlib.Core.Path.{_≡_}
-use mathlib.Core.Bool.{Bool, true, false}
 use lib.ListN.{length-set}
-use Rattle.pixels.specs.Render.{highByte}
+use Rattle.pixels.proofs.Turned.{high-few}
 use Rattle.rendering.proofs.Gathering.{Channelwise, channels-none, channel-room, channel-two, channels-ended}
 use Rattle.rendering.proofs.gather.pixel2.Statement.{statement}
 use Rattle.rendering.proofs.gather.pixel2.Tie as tie
@@ -21,11 +20,7 @@ high-requires c κs = search needs
 
 -- a word's more significant byte is its first or its second
 high-small : (c : tie.After-high Inv-loop μ-loop) → c .high .result ≤ 1
-high-small c = rw (c .high .ensures) (by (c .before .before .before .args .le))
-  where
-    by : (b : Bool) → highByte b ≤ 1
-    by true = omega arith
-    by false = omega arith
+high-small c = high-few (c .before .before .before .args .le) (c .high .ensures)
 
 loop-holds : tie.Need-loop-holds Inv-loop μ-loop
 loop-holds c = (channels-none _ _ _ _ _ _ _ _, omega arith)

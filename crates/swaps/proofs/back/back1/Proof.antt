@@ -1,7 +1,6 @@
 -- `swaps::back::back1` meets its contract: one byte is itself backwards. Assumes nothing.
 use borrow.Author.Needs.{needs}
 use native.Mathlib.Nat.{add-zero}
-use native.Mathlib.Omega.{arith}
 use Rattle.swaps.proofs.back.back1.Statement.{statement}
 use Rattle.swaps.proofs.back.back1.Tie as tie
 

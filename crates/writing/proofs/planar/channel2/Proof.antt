@@ -3,10 +3,9 @@ use borrow.Author.Needs.{needs}
 use native.Mathlib.Omega.{arith}
 use Prim.Native.Nat.{_+_, _-_, _/_, _≤_, _<_}
 use mathlib.Core.Path.{_≡_}
-use mathlib.Core.Bool.{Bool, true, false}
 use lib.ListN.{length, length-set}
 use denote.Ref.{now}
-use Rattle.answer.specs.Outcome.{pick}
+use Rattle.pixels.proofs.Turned.{high-few}
 use Rattle.writing.proofs.Channels.{Channelwise, pixels-none, pixel-room, pixel-inside, pixel-two, pixels-ended}
 use Rattle.writing.proofs.planar.channel2.Statement.{statement}
 use Rattle.writing.proofs.planar.channel2.Tie as tie
@@ -22,11 +21,7 @@ high-requires c κs = search needs
 
 -- a word's more significant byte is its first or its second
 high-small : (c : tie.After-high Inv-loop μ-loop) → c .high .result ≤ 1
-high-small c = rw (c .high .ensures) (by (c .before .before .before .args .le))
-  where
-    by : (b : Bool) → pick b 1 0 ≤ 1
-    by true = omega arith
-    by false = omega arith
+high-small c = high-few (c .before .before .before .args .le) (c .high .ensures)
 
 loop-holds : tie.Need-loop-holds Inv-loop μ-loop
 loop-holds c = pixels-none _ _ _ _ _ _
