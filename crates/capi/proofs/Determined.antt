@@ -1,0 +1,86 @@
+-- Each promise of this crate allows one number, one content of the buffer and one lent value: it names an answer, and the promise of the
+-- crate that answers allows one. Assumes nothing.
+use Prim.Native.Nat.{ℕ}
+use mathlib.Core.Path.{_≡_, sym, ap, _∙_}
+use mathlib.Core.Bool.{Bool}
+use mathlib.Core.List.{List}
+use Rattle.answer.specs.Outcome.{Outcome, doneOutcome}
+use Rattle.words.specs.Promises.{ReadWord, LoadedWord, wordOutcome, loadedOutcome}
+use Rattle.words.proofs.Determined.{read-word-determined, load-determined}
+use Rattle.strips.specs.Sample.{Strip}
+use Rattle.strips.specs.Promises.{StripChecked, Converted, Forwarded}
+use Rattle.strips.proofs.Determined.{check-strip-determined}
+use Rattle.samples.proofs.Determined.{convert-determined, forward-determined}
+use Rattle.damage.specs.Promises.{Marked, countedOutcome}
+use Rattle.damage.proofs.Determined.{marks-determined}
+use Rattle.swaps.specs.Swapped.{Swapped}
+use Rattle.swaps.proofs.Determined.{swap-components-determined}
+use Rattle.transport.specs.Moved.{Committed, Turned}
+use Rattle.transport.proofs.Determined.{commit-uninit-determined, reverse-bits-determined}
+use Rattle.layout.specs.declared.Fields.{Fields}
+use Rattle.layout.specs.Layout.{completed, LayoutChecked, Indexed, placeOutcome}
+use Rattle.layout.proofs.Determined.{check-layout-determined, index-determined}
+use Rattle.pixels.specs.Render.{Rendered}
+use Rattle.pixels.specs.Planes.{Written}
+use Rattle.rendering.proofs.Determined.{render-determined}
+use Rattle.writing.proofs.Determined.{write-planes-determined}
+use Rattle.capi.specs.Told.{status, lent, derivedOutcome, Told, Lent}
+
+-- where two allowed answers are the same, and E follows besides, so are the numbers and what is lent back
+module _ {D A E : Type 0} {outcome : D → Outcome A} {P Q : D → Type 0} {r s : ℕ} (one : (a b : D) → P a → Q b → (a ≡ b) × E) where
+  told-once : Told outcome P r → Told outcome Q s → (r ≡ s) × E
+  told-once t u =
+      let same = one (t .answer) (u .answer) (t .allowed) (u .allowed) in
+      (t .number-is ∙ ap (λ (d : D). status (outcome d)) (same .0) ∙ sym (u .number-is), same .1)
+
+  lent-once : {old x y : A} → Lent outcome P r old x → Lent outcome Q s old y → ((r ≡ s) × (x ≡ y)) × E
+  lent-once {old} t u =
+      let same = one (t .answer) (u .answer) (t .allowed) (u .allowed) in (
+        (t .number-is ∙ ap (λ (d : D). status (outcome d)) (same .0) ∙ sym (u .number-is), t .value-is ∙ ap (λ (d : D). lent (outcome d) old) (same .0) ∙ sym (u .value-is)),
+        same .1,
+      )
+
+module _ (r s : ℕ) where
+  pub hamrisk-read-word-determined : (bytes : List ℕ) (at width : ℕ) (le : Bool) (old v w : ℕ) → Lent wordOutcome (ReadWord bytes at width le) r old v → Lent wordOutcome (ReadWord bytes at width le) s old w → (r ≡ s) × (v ≡ w)
+  hamrisk-read-word-determined bytes at width le old v w t u =
+      lent-once (λ a b p q. (read-word-determined bytes at width le a b p q, tt {0})) t u .0
+
+  pub hamrisk-load-determined : (bytes : List ℕ) (i : ℕ) (wide le : Bool) (old v w : ℕ) → Lent loadedOutcome (LoadedWord bytes i wide le) r old v → Lent loadedOutcome (LoadedWord bytes i wide le) s old w → (r ≡ s) × (v ≡ w)
+  hamrisk-load-determined bytes i wide le old v w t u =
+      lent-once (λ a b p q. (load-determined bytes i wide le a b p q, tt {0})) t u .0
+
+  pub hamrisk-check-strip-determined : (bytes : ℕ) (g : Strip) → Told doneOutcome (StripChecked bytes g) r → Told doneOutcome (StripChecked bytes g) s → r ≡ s
+  hamrisk-check-strip-determined bytes g t u = told-once (λ a b p q. (check-strip-determined bytes g a b p q, tt {0})) t u .0
+
+  module _ (raw : List ℕ) (g : Strip) (predict le out-le : Bool) (old x y : List ℕ) where
+    pub hamrisk-convert-determined : Told doneOutcome (λ d. Converted raw g predict le out-le old d x) r → Told doneOutcome (λ d. Converted raw g predict le out-le old d y) s → (r ≡ s) × (x ≡ y)
+    hamrisk-convert-determined = told-once (λ a b. convert-determined raw g predict le out-le old a b x y)
+
+    pub hamrisk-forward-determined : Told doneOutcome (λ d. Forwarded raw g predict le out-le old d x) r → Told doneOutcome (λ d. Forwarded raw g predict le out-le old d y) s → (r ≡ s) × (x ≡ y)
+    hamrisk-forward-determined = told-once (λ a b. forward-determined raw g predict le out-le old a b x y)
+
+  pub hamrisk-marks-determined : (damage : List ℕ) (g : Strip) (predict : Bool) (old x y : List ℕ) (count m n : ℕ) → Lent countedOutcome (λ d. Marked damage g predict old d x) r count m → Lent countedOutcome (λ d. Marked damage g predict old d y) s count n → ((r ≡ s) × (m ≡ n)) × (x ≡ y)
+  hamrisk-marks-determined damage g predict old x y count m n =
+      lent-once (λ a b. marks-determined damage g predict old a b x y)
+
+  pub hamrisk-swap-components-determined : (raw : List ℕ) (width : ℕ) (old x y : List ℕ) → Told doneOutcome (λ d. Swapped raw width old d x) r → Told doneOutcome (λ d. Swapped raw width old d y) s → (r ≡ s) × (x ≡ y)
+  hamrisk-swap-components-determined raw width old x y = told-once (λ a b. swap-components-determined raw width old a b x y)
+
+  pub hamrisk-commit-determined : (source old x y : List ℕ) → Told doneOutcome (λ d. Committed source old d x) r → Told doneOutcome (λ d. Committed source old d y) s → (r ≡ s) × (x ≡ y)
+  hamrisk-commit-determined source old x y = told-once (λ a b. commit-uninit-determined source old a b x y)
+
+  module _ (f : Fields) where
+    pub hamrisk-check-layout-determined : (old v w : List ℕ) → Lent derivedOutcome (LayoutChecked f) r old v → Lent derivedOutcome (LayoutChecked f) s old w → (r ≡ s) × (v ≡ w)
+    hamrisk-check-layout-determined old v w t u = lent-once (λ a b p q. (check-layout-determined f a b p q, tt {0})) t u .0
+
+    pub hamrisk-index-determined : (k old v w : ℕ) → Lent placeOutcome (Indexed (completed f) k) r old v → Lent placeOutcome (Indexed (completed f) k) s old w → (r ≡ s) × (v ≡ w)
+    hamrisk-index-determined k old v w t u = lent-once (λ a b p q. (index-determined (completed f) k a b p q, tt {0})) t u .0
+
+    pub hamrisk-render-determined : (file raw old x y : List ℕ) → Told doneOutcome (λ d. Rendered (completed f) file raw old d x) r → Told doneOutcome (λ d. Rendered (completed f) file raw old d y) s → (r ≡ s) × (x ≡ y)
+    hamrisk-render-determined file raw old x y = told-once (λ a b. render-determined (completed f) file raw old a b x y)
+
+    pub hamrisk-write-planes-determined : (picture old x y : List ℕ) → Told doneOutcome (λ d. Written (completed f) picture old d x) r → Told doneOutcome (λ d. Written (completed f) picture old d y) s → (r ≡ s) × (x ≡ y)
+    hamrisk-write-planes-determined picture old x y = told-once (λ a b. write-planes-determined (completed f) picture old a b x y)
+
+pub hamrisk-reverse-bits-determined : (old x y : List ℕ) → Turned old x → Turned old y → x ≡ y
+hamrisk-reverse-bits-determined = reverse-bits-determined

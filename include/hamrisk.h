@@ -1,0 +1,166 @@
+/*
+ * Hamrisk, the sample layer of TIFF, for C and C++: `rt staticlib capi` writes target/staticlib/libcapi.a, for x86-64 Linux.
+ *
+ * Every call ends on any numbers and any bytes. It returns HAMRISK_DONE, or the number of its refusal: the first fault in the order
+ * that stands at the call decides. A refusal writes nothing: buffers and lent numbers keep what they held. A call that is done
+ * writes the stated bytes at the front of its output and leaves the bytes past them as they were. Sums and products that a refusal
+ * speaks of are in whole numbers: none wraps. Each function is proved to meet its promise, which crates/capi states.
+ *
+ * What the proof cannot see, and the caller owes:
+ * - A pointer is not null, even with length 0, and stands for as many bytes as its length says: readable and initialised for
+ *   the whole call, an output's too, and writable where it is not const.
+ * - `value`, `count` and `place` point to one number and `derived` to seven, aligned as their type.
+ * - What a call writes overlaps nothing else that it is handed: `out`, `marks` and `planes` no input, and a lent number no buffer.
+ * - While the call runs nobody else writes what it reads, or touches what it writes.
+ * - A bool is 0 or 1.
+ */
+#ifndef HAMRISK_H
+#define HAMRISK_H
+
+#include <stdbool.h>
+#include <stddef.h>
+#include <stdint.h>
+
+#ifdef __cplusplus
+extern "C" {
+#endif
+
+enum {
+    HAMRISK_DONE = 0,
+    HAMRISK_UNSUPPORTED = 1,      /* a width, channel count or mode not served */
+    HAMRISK_INVALID = 2,          /* numbers that contradict each other, or forbidden content */
+    HAMRISK_TRUNCATED = 3,        /* an input too short */
+    HAMRISK_OUTPUT_TOO_SMALL = 4, /* an output buffer too short */
+    HAMRISK_LIMIT = 5             /* a size above the limits of hamrisk_check_layout */
+};
+
+/*
+ * The word of `width` bytes at byte `at` of s, the first byte the least significant if `le`, else the most significant.
+ * Refuses: width not 1, 2, 4 or 8: 1; at + width past s_len: 3.
+ * Writes: *value, the word.
+ */
+uint32_t hamrisk_read_word(const uint8_t *s, size_t s_len, size_t at, size_t width, bool le, uint64_t *value);
+
+/*
+ * Sample i of s, of two bytes if `wide`, else of one; it begins at byte i * 2, or i.
+ * Refuses: (i + 1) * 2, or i + 1, past s_len: 3.
+ * Writes: *value, the sample.
+ */
+uint32_t hamrisk_load(const uint8_t *s, size_t s_len, size_t i, bool wide, bool le, uint32_t *value);
+
+/*
+ * Whether a strip of raw_len bytes has rows of row_bytes bytes, and pixels of `channels` samples of `width` bytes.
+ * Refuses: width not 1, 2, 4 or 8, channels 0 or above 64, or row_bytes 0: 1;
+ *          row_bytes no multiple of channels * width, or raw_len no multiple of row_bytes: 2.
+ * Writes nothing.
+ */
+uint32_t hamrisk_check_strip(size_t raw_len, size_t row_bytes, size_t channels, size_t width);
+
+/*
+ * The samples of a strip. `le` is the byte order of raw, `out_le` that of out. With `predict` each sample but a row's first
+ * `channels` is its word plus the sample `channels` before it, modulo 256^width; without, it is its word.
+ * Refuses: as hamrisk_check_strip; out_len below raw_len: 4.
+ * Writes: raw_len bytes of out.
+ */
+uint32_t hamrisk_convert(const uint8_t *raw, size_t raw_len, size_t row_bytes, size_t channels, size_t width, bool le,
+                         bool predict, bool out_le, uint8_t *out, size_t out_len);
+
+/*
+ * Forward prediction, which hamrisk_convert undoes: with `predict` each word but a row's first `channels` is its sample less the
+ * sample `channels` before it, modulo 256^width; without, it is its sample.
+ * Refuses: as hamrisk_convert.
+ * Writes: raw_len bytes of out.
+ */
+uint32_t hamrisk_forward(const uint8_t *raw, size_t raw_len, size_t row_bytes, size_t channels, size_t width, bool le,
+                         bool predict, bool out_le, uint8_t *out, size_t out_len);
+
+/*
+ * Which samples of a strip the damaged bytes can change. `damage` has a byte for each byte of the strip: 0 for sound, anything
+ * else for damaged; damage_len stands for the strip's length.
+ * Refuses: as hamrisk_check_strip; marks_len below damage_len / width: 4.
+ * Writes: damage_len / width bytes of marks, 1 for a marked sample and 0 for any other; *count, how many are marked.
+ */
+uint32_t hamrisk_marks(const uint8_t *damage, size_t damage_len, size_t row_bytes, size_t channels, size_t width, bool predict,
+                       uint8_t *marks, size_t marks_len, size_t *count);
+
+/*
+ * Bit i of every byte goes to bit 7 - i.
+ * Refuses nothing.
+ * Writes: all s_len bytes of s, in place.
+ */
+void hamrisk_reverse_bits(uint8_t *s, size_t s_len);
+
+/*
+ * Each group of `width` bytes backwards.
+ * Refuses: width 0 or above 8: 1; raw_len no multiple of width: 2; out_len below raw_len: 4.
+ * Writes: raw_len bytes of out.
+ */
+uint32_t hamrisk_swap_components(const uint8_t *raw, size_t raw_len, size_t width, uint8_t *out, size_t out_len);
+
+/*
+ * A copy of source.
+ * Refuses: out_len below source_len: 4.
+ * Writes: source_len bytes of out.
+ */
+uint32_t hamrisk_commit(const uint8_t *source, size_t source_len, uint8_t *out, size_t out_len);
+
+/*
+ * A layout is eleven numbers:
+ *   w, h      columns and rows of the picture
+ *   ch, bytes channels of a pixel, and bytes of a channel, as they are rendered
+ *   slots     samples in a byte of the planes: 8 in a bilevel picture, 1, 2 or 8 with a palette, else 1
+ *   palette   the planes hold indices of colours
+ *   separate  each channel stands in a plane of its own
+ *   le        the byte order of the planes, and of the palette
+ *   white     0 is white; a palette ignores it
+ *   alpha     0: no alpha; 1: the last channel is alpha and the others are multiplied by it; 2: it is, and they are not
+ *   map       the byte of `file` at which the palette begins: all reds, then greens, then blues, two bytes each; never refused here
+ *
+ * hamrisk_check_layout checks one and gives what follows from it.
+ * Refuses: bytes not 1, 2 or 8, ch not 1 to 4, slots not 1, 2 or 8, or alpha above 2: 1;
+ *          w or h 0: 2;
+ *          bytes 8 with white, palette, alpha, slots not 1, or ch neither 1 nor 3: 2;
+ *          alpha with bytes not 1, ch neither 2 nor 4, or palette: 2;
+ *          palette with ch not 3, bytes not 1, separate, or alpha: 2;
+ *          without palette slots not 1, unless slots is 8, ch and bytes 1 and alpha 0: 2;
+ *          w or h above 16384, or w * h * ch * bytes above 1073741824: 5.
+ * Writes: derived[0] encoded width, the places in a row of a plane: pixels, or bytes that hold several samples;
+ *         [1] plane channels, the bytes at a place; [2] planes; [3] plane length, the bytes of a plane;
+ *         [4] scratch length, the bytes of all planes; [5] output length, the bytes of the picture; [6] colours of a palette.
+ */
+uint32_t hamrisk_check_layout(size_t w, size_t h, size_t ch, size_t bytes, size_t slots, bool palette, bool separate, bool le,
+                              bool white, size_t alpha, size_t map, size_t *derived);
+
+/*
+ * Which byte of the planes byte k of the picture comes from.
+ * Refuses: as hamrisk_check_layout; k at or past the output length: 2.
+ * Writes: *place, below the scratch length.
+ */
+uint32_t hamrisk_index(size_t w, size_t h, size_t ch, size_t bytes, size_t slots, bool palette, bool separate, bool le,
+                       bool white, size_t alpha, size_t map, size_t k, size_t *place);
+
+/*
+ * The picture that the planes `raw` hold. `file` has the palette, and is not read without one.
+ * Refuses: as hamrisk_check_layout; bytes 8: 1; with palette map + 6 * colours past file_len: 3;
+ *          raw_len below the scratch length: 3; out_len below the output length: 4.
+ * Writes: output length bytes of out.
+ */
+uint32_t hamrisk_render(size_t w, size_t h, size_t ch, size_t bytes, size_t slots, bool palette, bool separate, bool le,
+                        bool white, size_t alpha, size_t map, const uint8_t *file, size_t file_len, const uint8_t *raw,
+                        size_t raw_len, uint8_t *out, size_t out_len);
+
+/*
+ * The planes whose rendering is `picture`; padding bits are 0.
+ * Refuses: as hamrisk_check_layout; palette, bytes 8 or alpha 1: 1; picture_len below the output length: 3;
+ *          planes_len below the scratch length: 4; with slots 8 one of the output length bytes neither 0 nor 255: 2.
+ * Writes: scratch length bytes of planes.
+ */
+uint32_t hamrisk_write_planes(size_t w, size_t h, size_t ch, size_t bytes, size_t slots, bool palette, bool separate, bool le,
+                              bool white, size_t alpha, size_t map, const uint8_t *picture, size_t picture_len,
+                              uint8_t *planes, size_t planes_len);
+
+#ifdef __cplusplus
+}
+#endif
+
+#endif
