@@ -32,6 +32,10 @@ pub some-bytes : {bytes : ℕ} → OneOrTwo bytes → 0 < bytes
 some-bytes (inl e) = omega arith
 some-bytes (inr e) = omega arith
 
+pub one-byte : {bytes : ℕ} → OneOrTwo bytes → (bytes ≡ 2 → ⊥) → bytes ≡ 1
+one-byte (inl e) n = e
+one-byte (inr e) n = absurd (n e)
+
 pub narrow-served : {bytes : ℕ} → OneOrTwo bytes → served bytes ≡ true
 unfolding served
 narrow-served (inl e) = rw e

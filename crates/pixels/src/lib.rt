@@ -96,6 +96,10 @@ pub fn straighten_row(s: &mut [u8], channels: usize, multiplied: bool, white: bo
     if s.len() % channels != 0 {
         return Done::Refused(Refusal::Invalid);
     }
-    straighten_pixels(s, channels, multiplied, white);
+    if multiplied {
+        straighten_pixels(s, channels, true, white);
+    } else {
+        straighten_pixels(s, channels, false, white);
+    }
     Done::Done
 }

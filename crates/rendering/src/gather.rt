@@ -43,8 +43,10 @@ fn pixel2(
     let mut to = at;
     let mut c: usize = 0;
     while c < channels {
-        out[to] = raw[from + high];
-        out[to + 1] = raw[from + (1 - high)];
+        let a = raw[from + high];
+        let b = raw[from + (1 - high)];
+        out[to] = a;
+        out[to + 1] = b;
         from += plane_len;
         to += 2;
         c += 1;
@@ -115,13 +117,27 @@ fn planes(
     }
 }
 
+// The same, with the width and the byte order said outright: a loop for each.
+fn known_planes(l: RasterLayout, raw: &[u8], from: usize, out: &mut [u8])
+    requires { ⌜ PlanesFit (now raw) (l .«plane_len») from (l .ch) (l .bytes) (now out) ⌝ }
+    ensures { λ r. ⌜ PlanesInto (now (raw .entry)) (l .«plane_len») from (l .ch) (l .bytes) (l .le) (now (out .entry)) (now (out .exit)) ⌝ }
+{
+    if l.bytes != 2 {
+        planes(raw, l.plane_len, from, l.ch, 1, l.le, out);
+    } else if l.le {
+        planes(raw, l.plane_len, from, l.ch, 2, true, out);
+    } else {
+        planes(raw, l.plane_len, from, l.ch, 2, false, out);
+    }
+}
+
 pub(crate) fn gather(l: RasterLayout, raw: &[u8], y: usize, out: &mut [u8])
     requires { ⌜ PlainRow l (now raw) y (now out) ⌝ }
     ensures { λ r. ⌜ Gathered l (now (raw .entry)) y (now (out .entry)) (now (out .exit)) ⌝ }
 {
     let from = y * (l.encoded_width * l.plane_channels);
     if l.separate {
-        planes(raw, l.plane_len, from, l.ch, l.bytes, l.le, out);
+        known_planes(l, raw, from, out);
     } else {
         let end = from + out.len();
         strips::reorder(&raw[from..end], l.bytes, l.le, false, out);

@@ -2,19 +2,22 @@
 use mathlib.Core.Path.{_≡_, refl, sym, ap, _∙_}
 use mathlib.Core.Bool.{Bool, true, false}
 use mathlib.Core.List.{List}
-use Prim.Native.Nat.{ℕ, zero, suc, _+_, _-_, _*_, _/_, _%_, _≤_, _<_}
-use native.Mathlib.Nat.{mul-mod-left, add-zero, zero-mod, zero-div, add-mod-right, add-div-right, div-add-mod', mod-eq-of-lt, le-div-iff-mul-le, add-mul, one-mul, mul-sub, mul-comm, le-mul-of-pos-right}
+use Prim.Native.Nat.{ℕ, _+_, _-_, _*_, _/_, _%_, _≤_, _<_}
+use native.Mathlib.Nat.{mul-mod-left, add-zero, zero-mod, add-mod-right, add-mul-div-right, div-add-mod', mod-eq-of-lt, le-div-iff-mul-le, add-mul, one-mul, mul-sub, mul-comm, le-mul-of-pos-right}
 use native.Mathlib.Numerals.{add-one}
 use native.Mathlib.Omega.{arith}
-use borrow.Author.Tests.{le-ltb}
+use borrow.Author.Tests.{lt-ltb, le-ltb}
+use lib.Dec.{ltb}
+use native.Mathlib.Decide.{decLt}
+use Rattle.answer.specs.Outcome.{pick}
 use lib.ListN.{length, getD}
 use Rattle.answer.specs.Table.{filled}
 use Rattle.answer.proofs.Filling.{length-stores, stores-same, stores-filled, filled-front, filled-already}
 use Rattle.words.specs.Word.{wordAt, backwards, modulus, plus, minus}
 use Rattle.words.proofs.Words.{digits-word, backwards-digit}
 use Rattle.swaps.proofs.Mirror.{group-room}
-use Rattle.strips.specs.Sample.{alone, wordOf, sample, difference, storedAt}
-use Rattle.strips.proofs.Sums.{first-alone, sample-alone, sample-later, difference-later}
+use Rattle.strips.specs.Sample.{Strip, alone, wordOf, sample, difference, storedAt}
+use Rattle.strips.proofs.Sums.{sample-alone, sample-later, difference-later}
 use Rattle.strips.proofs.Stored.{stored-byte}
 use Rattle.strips.proofs.Strips.{groups-words}
 use Rattle.strips.proofs.Undo.{sample-below}
@@ -62,43 +65,57 @@ module _ {v : ℕ → ℕ} {width : ℕ} {out-le : Bool} {raw old : List ℕ} {a
 later : (raw : List ℕ) (channels width n : ℕ) → n < length raw / width → channels ≤ n → alone (oneRow raw channels width) true n ≡ false
 later raw channels width n h d = rw (mod-eq-of-lt h) (le-ltb n channels d)
 
--- one channel: the sum that is carried into word n
-pub carried : List ℕ → ℕ → Bool → ℕ → ℕ
-carried raw width le zero = 0
-carried raw width le (suc n) = sample (oneRow raw 1 width) true le raw n
+-- the sum that is carried into word n: the sample `channels` before it, if its row has one
+pub carried : List ℕ → ℕ → ℕ → Bool → ℕ → ℕ
+carried raw channels width le n = pick (ltb n channels) 0 (sample (oneRow raw channels width) true le raw (n - channels))
 
-pub carried-none : (raw : List ℕ) (width : ℕ) (le : Bool) → carried raw width le (0 / width) ≡ 0
+pub carried-none : (raw : List ℕ) (channels width : ℕ) (le : Bool) (n : ℕ) → n < channels → carried raw channels width le n ≡ 0
 unfolding carried
-carried-none raw width le = rw (zero-div width)
+carried-none raw channels width le n h = rw (lt-ltb n channels h)
 
-carried-on : (raw : List ℕ) (width : ℕ) (le : Bool) (n : ℕ) → n < length raw / width → sample (oneRow raw 1 width) true le raw n ≡ plus width (wordOf width le raw n) (carried raw width le n)
+carried-later : (raw : List ℕ) (channels width : ℕ) (le : Bool) (n : ℕ) → carried raw channels width le (n + channels) ≡ sample (oneRow raw channels width) true le raw n
 unfolding carried
-carried-on raw width le zero h =
-    sample-alone (oneRow raw 1 width) true le raw 0 (first-alone (oneRow raw 1 width) true (omega arith)) ∙ ap (λ (x : ℕ). x % modulus width) (sym (add-zero (wordOf width le raw 0)))
-carried-on raw width le (suc n) h =
-    sample-later (oneRow raw 1 width) true le raw (suc n) (omega arith) (later raw 1 width (suc n) h (omega arith))
-    ∙ ap (λ (m : ℕ). plus width (wordOf width le raw (suc n)) (sample (oneRow raw 1 width) true le raw m)) (omega arith)
+carried-later raw channels width le n =
+    let back : n + channels - channels ≡ n = omega arith in rw (le-ltb (n + channels) channels (omega arith), back)
 
-module _ (le : Bool) {raw : List ℕ} {width : ℕ} {out-le : Bool} {old : List ℕ} {at : ℕ} {out : List ℕ} {sum : ℕ} (fits : RowFits raw 1 width old) (is : Upto (sample (oneRow raw 1 width) true le raw) width out-le raw old at out) (carry : sum ≡ carried raw width le (at / width)) where
+carried-on : (raw : List ℕ) (channels width : ℕ) (le : Bool) (n : ℕ) → 0 < channels → n < length raw / width → sample (oneRow raw channels width) true le raw n ≡ plus width (wordOf width le raw n) (carried raw channels width le n)
+unfolding carried
+carried-on raw channels width le n some h = by (decLt n channels)
+  where
+    g : Strip
+    g = oneRow raw channels width
+
+    by : Dec (n < channels) → sample g true le raw n ≡ plus width (wordOf width le raw n) (pick (ltb n channels) 0 (sample g true le raw (n - channels)))
+    by (yes l) =
+        sample-alone g true le raw n (rw (mod-eq-of-lt h) (lt-ltb n channels l)) ∙ rw (lt-ltb n channels l, add-zero)
+    by (no m) =
+        let deep : channels ≤ n = omega arith in
+        sample-later g true le raw n some (later raw channels width n h deep) ∙ rw (le-ltb n channels deep)
+
+-- a row whose channels' sums are carried along
+module _ (le : Bool) {raw : List ℕ} {channels width : ℕ} {out-le : Bool} {old : List ℕ} {at : ℕ} {out : List ℕ} (fits : RowFits raw channels width old) (is : Upto (sample (oneRow raw channels width) true le raw) width out-le raw old at out) where
   whole-words : length raw % width ≡ 0
-  whole-words = rw one-mul at (fits .groups)
+  whole-words = groups-words (length raw) channels width (fits .groups)
 
   pub sum-room : at < length raw → at + width ≤ length raw
   sum-room more = turn-room is whole-words more
 
-  -- the sum after a turn is the sample
-  pub summed-on : at < length raw → (x : ℕ) → x ≡ plus width (wordAt raw at width le) sum → x ≡ sample (oneRow raw 1 width) true le raw (at / width)
-  summed-on more x e =
-      let v = sample (oneRow raw 1 width) true le raw in
-      let here : wordOf width le raw (at / width) ≡ wordAt raw at width le = ap (λ (k : ℕ). wordAt raw k width le) (back-at is) in
-      e ∙ rw (carry, ← here) (sym (carried-on raw width le (at / width) (in-words is whole-words more (fits .wide))))
+  module _ (more : at < length raw) {sum : ℕ} (carry : sum ≡ carried raw channels width le (at / width)) (x : ℕ) (e : x ≡ plus width (wordAt raw at width le) sum) where
+    -- the sum after a turn is the sample
+    summed-on : x ≡ sample (oneRow raw channels width) true le raw (at / width)
+    summed-on =
+        let here : wordOf width le raw (at / width) ≡ wordAt raw at width le = ap (λ (k : ℕ). wordAt raw k width le) (back-at is) in
+        e ∙ rw (carry, ← here) (sym (carried-on raw channels width le (at / width) (fits .channel) (in-words is whole-words more (fits .wide))))
 
-  pub sum-turned : at < length raw → (x : ℕ) (new : List ℕ) → x ≡ plus width (wordAt raw at width le) sum → Put out at width out-le x new → Upto (sample (oneRow raw 1 width) true le raw) width out-le raw old (at + width) new
-  sum-turned more x new e put = turned is whole-words more (fits .room) x new (summed-on more x e) put
+    pub sum-turned : (new : List ℕ) → Put out at width out-le x new → Upto (sample (oneRow raw channels width) true le raw) width out-le raw old (at + width) new
+    sum-turned new put = turned is whole-words more (fits .room) x new summed-on put
 
-  pub sum-carried : at < length raw → (x : ℕ) → x ≡ plus width (wordAt raw at width le) sum → x ≡ carried raw width le ((at + width) / width)
-  unfolding carried
-  sum-carried more x e = rw (add-div-right at (fits .wide), add-one) (summed-on more x e)
+    -- and is carried into the next pixel
+    pub sum-carried : (next : ℕ) → next ≡ at + channels * width → x ≡ carried raw channels width le (next / width)
+    sum-carried next there =
+        summed-on
+        ∙ sym (carried-later raw channels width le (at / width))
+        ∙ ap (carried raw channels width le) (sym (ap (λ (k : ℕ). k / width) there ∙ add-mul-div-right at channels (fits .wide)))
 
 -- several channels: word n, with the sample or the word `channels` before it, step bytes back
 module _ {raw : List ℕ} {channels width : ℕ} {out-le : Bool} {old : List ℕ} {at : ℕ} {out : List ℕ} {v : ℕ → ℕ} (fits : RowFits raw channels width old) (is : Upto v width out-le raw old at out) (past : channels * width ≤ at) where

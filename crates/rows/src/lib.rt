@@ -1,5 +1,7 @@
 mod differences;
+mod fours;
 mod sums;
+mod threes;
 mod trails;
 mod word;
 
@@ -22,6 +24,36 @@ fn sum(raw: &[u8], width: usize, le: bool, out_le: bool, out: &mut [u8])
         sums::sum4(raw, le, out_le, out)
     } else {
         sums::sum8(raw, le, out_le, out)
+    }
+}
+
+fn three(raw: &[u8], width: usize, le: bool, out_le: bool, out: &mut [u8])
+    requires { ⌜ (served width ≡ true) × RowFits (now raw) 3 width (now out) ⌝ }
+    ensures { λ r. ⌜ UndoneInto (now (raw .entry)) 3 width le «out_le» (now (out .entry)) (now (out .exit)) ⌝ }
+{
+    if width == 1 {
+        threes::three1(raw, le, out_le, out)
+    } else if width == 2 {
+        threes::three2(raw, le, out_le, out)
+    } else if width == 4 {
+        threes::three4(raw, le, out_le, out)
+    } else {
+        threes::three8(raw, le, out_le, out)
+    }
+}
+
+fn four(raw: &[u8], width: usize, le: bool, out_le: bool, out: &mut [u8])
+    requires { ⌜ (served width ≡ true) × RowFits (now raw) 4 width (now out) ⌝ }
+    ensures { λ r. ⌜ UndoneInto (now (raw .entry)) 4 width le «out_le» (now (out .entry)) (now (out .exit)) ⌝ }
+{
+    if width == 1 {
+        fours::four1(raw, le, out_le, out)
+    } else if width == 2 {
+        fours::ordered2(raw, le, out_le, out)
+    } else if width == 4 {
+        fours::ordered4(raw, le, out_le, out)
+    } else {
+        fours::ordered8(raw, le, out_le, out)
     }
 }
 
@@ -68,11 +100,14 @@ fn undo_words(raw: &[u8], channels: usize, width: usize, le: bool, out_le: bool,
     requires { ⌜ RowServed (now raw) channels width (now out) ⌝ }
     ensures { λ r. ⌜ UndoneInto (now (raw .entry)) channels width le «out_le» (now (out .entry)) (now (out .exit)) ⌝ }
 {
-    if channels == 1 {
-        sum(raw, width, le, out_le, out)
-    } else {
-        lead(raw, channels * width, width, le, out_le, out);
-        trail(raw, channels, width, le, out_le, out)
+    match channels {
+        1 => sum(raw, width, le, out_le, out),
+        3 => three(raw, width, le, out_le, out),
+        4 => four(raw, width, le, out_le, out),
+        _ => {
+            lead(raw, channels * width, width, le, out_le, out);
+            trail(raw, channels, width, le, out_le, out)
+        }
     }
 }
 

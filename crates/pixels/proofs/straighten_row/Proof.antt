@@ -2,13 +2,16 @@
 use borrow.Author.Needs.{needs}
 use borrow.Author.Tests.{eq-eqb, ne-eqb}
 use mathlib.Core.Path.{ap}
-use mathlib.Core.Bool.{not}
+use mathlib.Core.Bool.{Bool, true, false, not}
+use mathlib.Core.List.{List}
+use Prim.Native.Nat.{ℕ}
 use native.Mathlib.Omega.{arith}
 use lib.ListN.{length}
 use denote.Ref.{now}
 use Rattle.answer.specs.Outcome.{here, later, next, none}
 use Rattle.answer.proofs.Promised.{refuses, finishes}
-use Rattle.pixels.specs.Finish.{straightAt, straightFaults}
+use Rattle.answer.specs.declared.Done.the-variants as Done-is
+use Rattle.pixels.specs.Finish.{straightAt, straightFaults, PixelsStraightened, Straightened}
 use Rattle.pixels.proofs.straighten_row.Statement.{statement}
 use Rattle.pixels.proofs.straighten_row.Tie as tie
 
@@ -26,17 +29,30 @@ returns-2 c =
     refuses (straightFaults (now (args .s)) (args .channels)) tt _ _ (later (ne-eqb _ _ (c .before .if1 .left)) (here (ap not (ne-eqb _ _ (c .if2 .taken)))))
 
 straighten-pixels-requires : tie.Need-straighten-pixels-requires
-straighten-pixels-requires c κs = record { some = omega (arith, c .before .before .if1 .left); whole = c .before .if2 .left }
+straighten-pixels-requires c κs = record { some = omega (arith, c .before .before .before .if1 .left); whole = c .before .before .if2 .left }
+
+straighten-pixels-requires-2 : tie.Need-straighten-pixels-requires-2
+straighten-pixels-requires-2 c κs = record { some = omega (arith, c .before .before .before .if1 .left); whole = c .before .before .if2 .left }
 
 same-length : tie.Need-same-length
 same-length c = search needs
 
+-- past both tests
+done : (c : tie.Else2) (multiplied : Bool) (new : List ℕ) → let args = c .before .before .before .args in PixelsStraightened (now (args .s)) (args .channels) multiplied (args .white) new → Straightened (now (args .s)) (args .channels) multiplied (args .white) Done-is.Done new
+done c multiplied new p =
+    let args = c .before .before .before .args in
+    finishes (straightFaults (now (args .s)) (args .channels)) tt (length (now (args .s))) (straightAt (now (args .s)) (args .channels) multiplied (args .white)) _ _
+    (next (ne-eqb _ _ (c .before .if1 .left)) (next (ap not (eq-eqb _ _ (c .if2 .left))) none)) p
+
 returns-3 : tie.Need-returns-3
-returns-3 c =
-    let args = c .before .before .before .before .before .before .before .args in
-    finishes (straightFaults (now (args .s)) (args .channels)) tt (length (now (args .s))) (straightAt (now (args .s)) (args .channels) (args .multiplied) (args .white)) _ _
-    (next (ne-eqb _ _ (c .before .before .before .before .before .if1 .left)) (next (ap not (eq-eqb _ _ (c .before .before .before .before .if2 .left))) none)) (c .before .before .straighten-pixels .ensures)
+returns-3 c = rw (c .before .before .before .before .if3 .taken) (done (c .before .before .before .before .before) true _ (c .before .before .straighten-pixels .ensures))
+
+same-length-2 : tie.Need-same-length-2
+same-length-2 c = search needs
+
+returns-4 : tie.Need-returns-4
+returns-4 c = rw (c .before .before .before .before .if3 .left) (done (c .before .before .before .before .before) false _ (c .before .before .straighten-pixels2 .ensures))
 
 pub straighten-row-spec : {M : Type 1} → statement M
 straighten-row-spec =
-    tie.close (tie.spec returns rem-if2 returns-2 straighten-pixels-requires same-length returns-3)
+    tie.close (tie.spec returns rem-if2 returns-2 straighten-pixels-requires straighten-pixels-requires-2 same-length returns-3 same-length-2 returns-4)

@@ -1,4 +1,4 @@
--- `rows::undo_words` meets its contract: one channel by its running sum, several from the row's first words on. Assumes nothing.
+-- `rows::undo_words` meets its contract: one, three or four channels by their running sums, others from the row's first words on. Assumes nothing.
 use borrow.Author.Needs.{needs}
 use native.Mathlib.Nat.{mul-mod-left}
 use native.Mathlib.Omega.{arith}
@@ -13,7 +13,13 @@ bytes : (c : tie.After-shared-slice-known) → Bytes (now (c .before .args .raw)
 bytes c i = omega (arith, c .shared-slice-known .given i)
 
 sum-requires : tie.Need-sum-requires
-sum-requires c κs = let start = c .before .before .before .before in (start .pre .takes, rw (c .before .if1 .taken) at (start .pre .fits))
+sum-requires c κs = let start = c .before .before .before .before in (start .pre .takes, rw (c .before .match .keys1) at (start .pre .fits))
+
+three-requires : tie.Need-three-requires
+three-requires c κs = let start = c .before .before .before .before in (start .pre .takes, rw (c .before .match .keys2) at (start .pre .fits))
+
+four-requires : tie.Need-four-requires
+four-requires c κs = let start = c .before .before .before .before in (start .pre .takes, rw (c .before .match .keys3) at (start .pre .fits))
 
 mul-lead : tie.Need-mul-lead
 mul-lead c = let start = c .before .before .before in omega (arith, start .pre .step, start .good)
@@ -33,16 +39,30 @@ same-length : tie.Need-same-length
 same-length c = search needs
 
 returns : tie.Need-returns
-returns c = rw (c .before .before .before .before .if1 .taken) (c .before .before .sum .ensures)
+returns c = rw (c .before .before .before .before .match .keys1) (c .before .before .sum .ensures)
 
 same-length-2 : tie.Need-same-length-2
 same-length-2 c = search needs
 
 returns-2 : tie.Need-returns-2
-returns-2 c =
+returns-2 c = rw (c .before .before .before .before .match .keys2) (c .before .before .three .ensures)
+
+same-length-3 : tie.Need-same-length-3
+same-length-3 c = search needs
+
+returns-3 : tie.Need-returns-3
+returns-3 c = rw (c .before .before .before .before .match .keys3) (c .before .before .four .ensures)
+
+same-length-4 : tie.Need-same-length-4
+same-length-4 c = search needs
+
+returns-4 : tie.Need-returns-4
+returns-4 c =
     let start-known = c .before .before .before .before .before .before .before .before .before .before in
     let start = start-known .before in
     done-on (undoneAt (now (start .args .raw)) (start .args .channels) (start .args .width) (start .args .le) (start .args .out-le)) (now (start .args .raw)) (start .args .channels) (start .args .width) (start .args .le) (start .args .out-le) (now (start .args .out)) _ (start .pre) (λ k h. first-undone (now (start .args .raw)) (bytes start-known) (start .args .channels) (start .args .width) (start .pre .fits .wide) (start .args .le) (start .args .out-le) k h) (c .before .before .before .before .before .before .lead .ensures) _ (c .before .before .trail .ensures)
 
 pub undo-words-spec : {M : Type 1} → statement M
-undo-words-spec = tie.close (tie.spec sum-requires mul-lead lead-requires trail-requires same-length returns same-length-2 returns-2)
+undo-words-spec =
+    tie.close
+    (tie.spec sum-requires three-requires four-requires mul-lead lead-requires trail-requires same-length returns same-length-2 returns-2 same-length-3 returns-3 same-length-4 returns-4)

@@ -16,8 +16,8 @@ mul-from c = let start = c .before .before .before in record { fits = omega (ari
 mul-from-2 : tie.Need-mul-from-2
 mul-from-2 c = let start = c .before .before .before in record { fits = omega (arith, plane-row-end (start .pre), plane-limited (start .pre)) }
 
-planes-requires : tie.Need-planes-requires
-planes-requires c κs = planes-fit (c .before .before .before .before .before .pre) (c .before .if1 .taken)
+known-planes-requires : tie.Need-known-planes-requires
+known-planes-requires c κs = planes-fit (c .before .before .before .before .before .pre) (c .before .if1 .taken)
 
 add-end : tie.Need-add-end
 add-end c = let start = c .before .before .before .before in omega (arith, part-inside (start .pre) (c .if1 .left), start .good)
@@ -38,7 +38,7 @@ same-length : tie.Need-same-length
 same-length c = search needs
 
 returns : tie.Need-returns
-returns c = let start = c .before .before .before .before .before .before .before .before in planes-gathered (start .pre) (c .before .before .before .before .if1 .taken) _ (c .before .before .planes .ensures)
+returns c = let start = c .before .before .before .before .before .before .before .before in planes-gathered (start .pre) (c .before .before .before .before .if1 .taken) _ (c .before .before .known-planes .ensures)
 
 same-length-2 : tie.Need-same-length-2
 same-length-2 c = search needs
@@ -50,4 +50,4 @@ returns-2 c =
 
 pub gather-spec : {M : Type 1} → statement M
 gather-spec =
-    tie.close (tie.spec mul-from mul-from-2 planes-requires add-end sub-reorder part-reorder-start part-reorder-end reorder-requires same-length returns same-length-2 returns-2)
+    tie.close (tie.spec mul-from mul-from-2 known-planes-requires add-end sub-reorder part-reorder-start part-reorder-end reorder-requires same-length returns same-length-2 returns-2)

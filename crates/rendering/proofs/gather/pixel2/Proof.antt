@@ -25,46 +25,46 @@ high-small c = high-few (c .before .before .before .args .le) (c .high .ensures)
 loop-holds : tie.Need-loop-holds Inv-loop μ-loop
 loop-holds c = (channels-none _ _ _ _ _ _ _ _, omega arith)
 
-add-out : tie.Need-add-out Inv-loop μ-loop
-add-out c =
+add-a : tie.Need-add-a Inv-loop μ-loop
+add-a c =
     let at = c .before in
     let start = at .before .before .before .before in
     let room = channel-room (start .pre) (at .loop .inv .0) (omega (arith, c .loop-test .taken)) in
     omega (arith, room .0 .0, room .0 .1, room .1, at .loop .inv .1, high-small (at .before), start .good)
 
-shared-slice-read-out : tie.Need-shared-slice-read-out Inv-loop μ-loop
-shared-slice-read-out c =
+shared-slice-read-a : tie.Need-shared-slice-read-a Inv-loop μ-loop
+shared-slice-read-a c =
     let at = c .before .before in
     let start = at .before .before .before .before in
     let room = channel-room (start .pre) (at .loop .inv .0) (omega (arith, c .before .loop-test .taken)) in
     omega (arith, room .0 .0, room .0 .1, room .1, at .loop .inv .1, high-small (at .before), start .good)
 
-slice-write-out : tie.Need-slice-write-out Inv-loop μ-loop
-slice-write-out c =
+sub-b : tie.Need-sub-b Inv-loop μ-loop
+sub-b c = omega (arith, high-small (c .before .before .before))
+
+add-b : tie.Need-add-b Inv-loop μ-loop
+add-b c =
     let at = c .before .before in
     let start = at .before .before .before .before in
     let room = channel-room (start .pre) (at .loop .inv .0) (omega (arith, c .before .loop-test .taken)) in
     omega (arith, room .0 .0, room .0 .1, room .1, at .loop .inv .1, high-small (at .before), start .good)
 
-add-out-2 : tie.Need-add-out-2 Inv-loop μ-loop
-add-out-2 c =
-    let at = c .before .before in
-    let start = at .before .before .before .before in
-    let room = channel-room (start .pre) (at .loop .inv .0) (omega (arith, c .before .loop-test .taken)) in
-    omega (arith, room .0 .0, room .0 .1, room .1, at .loop .inv .1, high-small (at .before), start .good)
-
-sub-out : tie.Need-sub-out Inv-loop μ-loop
-sub-out c = omega (arith, high-small (c .before .before .before))
-
-shared-slice-read-out-2 : tie.Need-shared-slice-read-out-2 Inv-loop μ-loop
-shared-slice-read-out-2 c =
+shared-slice-read-b : tie.Need-shared-slice-read-b Inv-loop μ-loop
+shared-slice-read-b c =
     let at = c .before .before .before in
     let start = at .before .before .before .before in
     let room = channel-room (start .pre) (at .loop .inv .0) (omega (arith, c .before .before .loop-test .taken)) in
     omega (arith, room .0 .0, room .0 .1, room .1, at .loop .inv .1, high-small (at .before), start .good)
 
-add-out-3 : tie.Need-add-out-3 Inv-loop μ-loop
-add-out-3 c =
+slice-write-out : tie.Need-slice-write-out Inv-loop μ-loop
+slice-write-out c =
+    let at = c .before .before .before in
+    let start = at .before .before .before .before in
+    let room = channel-room (start .pre) (at .loop .inv .0) (omega (arith, c .before .before .loop-test .taken)) in
+    omega (arith, room .0 .0, room .0 .1, room .1, at .loop .inv .1, high-small (at .before), start .good)
+
+add-out : tie.Need-add-out Inv-loop μ-loop
+add-out c =
     let at = c .before .before .before in
     let start = at .before .before .before .before in
     let room = channel-room (start .pre) (at .loop .inv .0) (omega (arith, c .before .before .loop-test .taken)) in
@@ -115,4 +115,4 @@ returns c =
     channels-ended (at .before .before .before .before .pre) (at .loop .inv .0) (omega (arith, c .loop-test .left))
 
 pub pixel2-spec : {M : Type 1} → statement M
-pixel2-spec = tie.close (tie.spec Inv-loop μ-loop high-requires loop-holds add-out shared-slice-read-out slice-write-out sub-out add-out-2 shared-slice-read-out-2 add-out-3 slice-write-out-2 add-from add-to add-c loop-less loop-again same-length returns)
+pixel2-spec = tie.close (tie.spec Inv-loop μ-loop high-requires loop-holds add-a shared-slice-read-a sub-b add-b shared-slice-read-b slice-write-out add-out slice-write-out-2 add-from add-to add-c loop-less loop-again same-length returns)

@@ -13,54 +13,47 @@ use Rattle.rows.proofs.sums.sum8.Statement.{statement}
 use Rattle.rows.proofs.sums.sum8.Tie as tie
 
 abbrev Inv-loop : tie.InvT-loop
-Inv-loop raw le out-le out₀ sum₀ at₀ out sum at = Upto (sample (oneRow raw 1 8) true le raw) 8 out-le raw out₀ at out × (sum ≡ carried raw 8 le (at / 8))
+Inv-loop raw le out-le out₀ sum₀ at₀ out sum at = Upto (sample (oneRow raw 1 8) true le raw) 8 out-le raw out₀ at out × (sum ≡ carried raw 1 8 le (at / 8))
 
 abbrev μ-loop : tie.MeasureT-loop
 μ-loop raw le out-le out₀ sum₀ at₀ out sum at = length raw - at
 
 loop-holds : tie.Need-loop-holds Inv-loop μ-loop
-loop-holds c = (upto-none _ 8 _ _ _, sym (carried-none _ 8 _))
+loop-holds c = (upto-none _ 8 _ _ _, sym (carried-none _ 1 8 _ 0 (omega arith)))
 
 get8-requires : tie.Need-get8-requires Inv-loop μ-loop
-get8-requires c κs =
-    let at = c .before in
-    let start = at .before .before .before in
-    sum-room (start .args .le) (start .pre) (at .loop .inv .0) (at .loop .inv .1) (c .loop-test .taken)
+get8-requires c κs = omega (arith, sum-room (c .before .before .before .before .args .le) (c .before .before .before .before .pre) (c .before .loop .inv .0) (c .loop-test .taken))
 
 add8-requires : tie.Need-add8-requires Inv-loop μ-loop
 add8-requires c κs = search needs
 
 put8-requires : tie.Need-put8-requires Inv-loop μ-loop
-put8-requires c κs =
-    let at = c .before .before .before .before in
-    let start = at .before .before .before in
-    omega (arith, sum-room (start .args .le) (start .pre) (at .loop .inv .0) (at .loop .inv .1) (c .before .before .before .loop-test .taken), at .loop .inv .0 .same, start .pre .room)
+put8-requires c κs = let at = c .before .before .before .before in omega (arith, sum-room (c .before .before .before .before .before .before .before .args .le) (c .before .before .before .before .before .before .before .pre) (c .before .before .before .before .loop .inv .0) (c .before .before .before .loop-test .taken), at .loop .inv .0 .same, at .before .before .before .pre .room)
 
 add-at : tie.Need-add-at Inv-loop μ-loop
-add-at c =
-    let at = c .before .before .before .before .before .before .before in
-    let start = at .before .before .before in
-    omega (arith, sum-room (start .args .le) (start .pre) (at .loop .inv .0) (at .loop .inv .1) (c .before .before .before .before .before .before .loop-test .taken), start .good)
+add-at c = omega (arith, sum-room (c .before .before .before .before .before .before .before .before .before .before .args .le) (c .before .before .before .before .before .before .before .before .before .before .pre) (c .before .before .before .before .before .before .before .loop .inv .0) (c .before .before .before .before .before .before .loop-test .taken), c .before .before .before .before .before .before .before .before .before .before .good)
 
 loop-less : tie.Need-loop-less Inv-loop μ-loop
-loop-less c = let more = c .before .before .before .before .before .before .loop-test .taken in omega arith
+loop-less c = omega (arith, c .before .before .before .before .before .before .loop-test .taken)
 
 loop-again : tie.Need-loop-again Inv-loop μ-loop
 loop-again c =
     let at = c .before .before .before .before .before .before .before in
     let start = at .before .before .before in
+    let le = start .args .le in
+    let i = at .loop .at in
     let more = c .before .before .before .before .before .before .loop-test .taken in
-    let e = c .before .before .before .before .add8 .ensures ∙ ap (λ (x : ℕ). plus 8 x (at .loop .sum)) (c .before .before .before .before .before .get8 .ensures) in
-    (sum-turned (start .args .le) (start .pre) (at .loop .inv .0) (at .loop .inv .1) more _ _ e (c .before .before .put8 .ensures), sum-carried (start .args .le) (start .pre) (at .loop .inv .0) (at .loop .inv .1) more _ e)
+    let sum-is = c .before .before .before .before .add8 .ensures ∙ ap (λ (x : ℕ). plus 8 x (at .loop .sum)) (c .before .before .before .before .before .get8 .ensures) in
+    let after-sum = sum-turned le (start .pre) (at .loop .inv .0) more (at .loop .inv .1) (c .before .before .before .before .add8 .result) sum-is _ (c .before .before .put8 .ensures) in (
+      after-sum,
+      sum-carried le (start .pre) (at .loop .inv .0) more (at .loop .inv .1) _ sum-is _ (omega arith),
+    )
 
 same-length : tie.Need-same-length Inv-loop μ-loop
 same-length c = search needs
 
 returns : tie.Need-returns Inv-loop μ-loop
-returns c =
-    let at = c .before in
-    let start = at .before .before .before in
-    ended (at .loop .inv .0) (c .loop-test .left)
+returns c = ended (c .before .loop .inv .0) (c .loop-test .left)
 
 pub sum8-spec : {M : Type 1} → statement M
 sum8-spec =

@@ -1,22 +1,15 @@
 -- `writing::planar::channel` meets its contract: a width that is not 2 is 1. Assumes nothing.
 use borrow.Author.Needs.{needs}
-use Prim.Native.Nat.{ℕ}
-use mathlib.Core.Path.{_≡_}
-use mathlib.Core.Logic.{inl, inr}
-use Rattle.pixels.specs.Render.{OneOrTwo}
+use Rattle.pixels.proofs.Turned.{one-byte}
 use Rattle.writing.proofs.planar.channel.Statement.{statement}
 use Rattle.writing.proofs.planar.channel.Tie as tie
-
-one : {bytes : ℕ} → OneOrTwo bytes → (bytes ≡ 2 → ⊥) → bytes ≡ 1
-one (inl e) n = e
-one (inr e) n = absurd (n e)
 
 channel2-requires : tie.Need-channel2-requires
 channel2-requires c κs = rw (c .before .if1 .taken) at (c .before .before .before .before .pre .0)
 
 channel1-requires : tie.Need-channel1-requires
 channel1-requires c κs =
-    let pre = c .before .before .before .before .pre in rw (one (pre .1) (c .before .if1 .left)) at (pre .0)
+    let pre = c .before .before .before .before .pre in rw (one-byte (pre .1) (c .before .if1 .left)) at (pre .0)
 
 same-length : tie.Need-same-length
 same-length c = search needs
@@ -30,7 +23,7 @@ same-length-2 c = search needs
 returns-2 : tie.Need-returns-2
 returns-2 c =
     let past = c .before .before .before .before in
-    rw (one (past .before .before .before .pre .1) (past .if1 .left)) (c .before .before .channel1 .ensures)
+    rw (one-byte (past .before .before .before .pre .1) (past .if1 .left)) (c .before .before .channel1 .ensures)
 
 pub channel-spec : {M : Type 1} → statement M
 channel-spec = tie.close (tie.spec channel2-requires channel1-requires same-length returns same-length-2 returns-2)
