@@ -1,0 +1,190 @@
+//! Debian's libtiff, found when the benchmark runs: the same operations where it has them.
+use std::ffi::{c_char, c_int, c_void, CString};
+
+extern "C" {
+    fn dlopen(name: *const c_char, flags: c_int) -> *mut c_void;
+    fn dlsym(library: *mut c_void, name: *const c_char) -> *mut c_void;
+}
+
+type Handle = *mut c_void;
+type Bytes = unsafe extern "C" fn(Handle, *mut c_void, isize) -> isize;
+type Seek = unsafe extern "C" fn(Handle, u64, c_int) -> u64;
+type Close = unsafe extern "C" fn(Handle) -> c_int;
+type Size = unsafe extern "C" fn(Handle) -> u64;
+type Map = unsafe extern "C" fn(Handle, *mut *mut c_void, *mut u64) -> c_int;
+type Unmap = unsafe extern "C" fn(Handle, *mut c_void, u64);
+
+/// The functions of libtiff that are timed, and those that a file in memory needs.
+pub struct Libtiff {
+    reverse: unsafe extern "C" fn(*mut u8, isize),
+    swab: [unsafe extern "C" fn(*mut u8, isize); 3],
+    open: unsafe extern "C" fn(
+        *const c_char,
+        *const c_char,
+        Handle,
+        Bytes,
+        Bytes,
+        Seek,
+        Close,
+        Size,
+        Map,
+        Unmap,
+    ) -> Handle,
+    close: unsafe extern "C" fn(Handle),
+    set: unsafe extern "C" fn(Handle, u32, ...) -> c_int,
+    write: unsafe extern "C" fn(Handle, u32, *const u8, isize) -> isize,
+    read: unsafe extern "C" fn(Handle, u32, *mut u8, isize) -> isize,
+}
+
+/// A file in memory.
+#[derive(Default)]
+struct Memory {
+    bytes: Vec<u8>,
+    at: usize,
+}
+
+unsafe extern "C" fn read(m: Handle, to: *mut c_void, n: isize) -> isize {
+    let m = &mut *(m as *mut Memory);
+    let n = (n as usize).min(m.bytes.len().saturating_sub(m.at));
+    std::ptr::copy_nonoverlapping(m.bytes[m.at..].as_ptr(), to as *mut u8, n);
+    m.at += n;
+    n as isize
+}
+
+unsafe extern "C" fn write(m: Handle, from: *mut c_void, n: isize) -> isize {
+    let m = &mut *(m as *mut Memory);
+    let end = m.at + n as usize;
+    if m.bytes.len() < end {
+        m.bytes.resize(end, 0);
+    }
+    std::ptr::copy_nonoverlapping(from as *const u8, m.bytes[m.at..].as_mut_ptr(), n as usize);
+    m.at = end;
+    n
+}
+
+unsafe extern "C" fn seek(m: Handle, to: u64, whence: c_int) -> u64 {
+    let m = &mut *(m as *mut Memory);
+    m.at = match whence {
+        0 => to as usize,
+        1 => m.at.wrapping_add(to as usize),
+        _ => m.bytes.len().wrapping_add(to as usize),
+    };
+    m.at as u64
+}
+
+unsafe extern "C" fn size(m: Handle) -> u64 {
+    (*(m as *mut Memory)).bytes.len() as u64
+}
+
+unsafe extern "C" fn close(_: Handle) -> c_int {
+    0
+}
+
+unsafe extern "C" fn map(_: Handle, _: *mut *mut c_void, _: *mut u64) -> c_int {
+    0
+}
+
+unsafe extern "C" fn unmap(_: Handle, _: *mut c_void, _: u64) {}
+
+/// A strip of one picture: `rows` rows of 1024 pixels of `channels` samples of `width` bytes, through Deflate.
+#[derive(Clone, Copy)]
+pub struct Picture {
+    pub channels: usize,
+    pub width: usize,
+    pub rows: usize,
+    pub predict: bool,
+    /// whether the file's byte order is the other one
+    pub swapped: bool,
+}
+
+impl Libtiff {
+    /// libtiff, if it is installed.
+    pub fn load() -> Option<Self> {
+        unsafe {
+            let library = dlopen(c"libtiff.so.6".as_ptr(), 2);
+            if library.is_null() {
+                return None;
+            }
+            let find = |name: &str| {
+                let found = dlsym(library, CString::new(name).unwrap().as_ptr());
+                (!found.is_null()).then_some(found)
+            };
+            use std::mem::transmute as function;
+            let warn: unsafe extern "C" fn(Handle) -> Handle = function(find("TIFFSetWarningHandler")?);
+            warn(std::ptr::null_mut());
+            Some(Libtiff {
+                reverse: function(find("TIFFReverseBits")?),
+                swab: [
+                    function(find("TIFFSwabArrayOfShort")?),
+                    function(find("TIFFSwabArrayOfLong")?),
+                    function(find("TIFFSwabArrayOfLong8")?),
+                ],
+                open: function(find("TIFFClientOpen")?),
+                close: function(find("TIFFClose")?),
+                set: function(find("TIFFSetField")?),
+                write: function(find("TIFFWriteEncodedStrip")?),
+                read: function(find("TIFFReadEncodedStrip")?),
+            })
+        }
+    }
+
+    pub fn reverse_bits(&self, s: &mut [u8]) {
+        unsafe { (self.reverse)(s.as_mut_ptr(), s.len() as isize) }
+    }
+
+    /// Words of 2, 4 or 8 bytes swapped in place.
+    pub fn swap(&self, s: &mut [u8], width: usize) {
+        let which = width.trailing_zeros() as usize - 1;
+        unsafe { (self.swab[which])(s.as_mut_ptr(), (s.len() / width) as isize) }
+    }
+
+    unsafe fn opened(&self, memory: &mut Memory, mode: &str) -> Handle {
+        let mode = CString::new(mode).unwrap();
+        let memory = memory as *mut Memory as Handle;
+        (self.open)(c"memory".as_ptr(), mode.as_ptr(), memory, read, write, seek, close, size, map, unmap)
+    }
+
+    /// A picture as a file: every row is a sample that its differences keep, or, unpredicted, the same stream of bytes.
+    fn written(&self, p: Picture) -> Memory {
+        let row = 1024 * p.channels * p.width;
+        let mut samples = vec![0u8; row * p.rows];
+        for r in samples.chunks_exact_mut(row) {
+            let kept = if p.predict { row } else { p.channels * p.width };
+            r[..kept].fill(7);
+        }
+        let mut memory = Memory::default();
+        unsafe {
+            let tiff = self.opened(&mut memory, if p.swapped { "wb" } else { "wl" });
+            let short = [
+                (256, 1024),
+                (258, 8 * p.width),
+                (259, 8),
+                (262, 1),
+                (277, p.channels),
+                (284, 1),
+                (317, 1 + p.predict as usize),
+            ];
+            for (tag, value) in short {
+                (self.set)(tiff, tag, value as c_int);
+            }
+            (self.set)(tiff, 257, p.rows as c_int);
+            (self.set)(tiff, 278, p.rows as c_int);
+            assert!((self.write)(tiff, 0, samples.as_ptr(), samples.len() as isize) > 0);
+            (self.close)(tiff);
+        }
+        memory.at = 0;
+        memory
+    }
+
+    /// The picture's strip, read: what one call does, and the bytes of the strip.
+    pub fn reader(&self, p: Picture) -> impl FnMut() + '_ {
+        let mut memory = Box::new(self.written(p));
+        let mut out = vec![0u8; 1024 * p.channels * p.width * p.rows];
+        let tiff = unsafe { self.opened(&mut memory, "r") };
+        move || {
+            let keep = &memory;
+            let n = unsafe { (self.read)(tiff, 0, out.as_mut_ptr(), out.len() as isize) };
+            assert!(n == out.len() as isize && !keep.bytes.is_empty());
+        }
+    }
+}

@@ -1,0 +1,154 @@
+/*
+ * Document 01's cases A, C, D, E, F, I, J and L, and some refusals, through include/hamrisk.h. Prints a line for each check that
+ * differs and one of counts; ends with 1 if any differs.
+ */
+#include "hamrisk.h"
+
+#include <stdio.h>
+#include <string.h>
+
+/* What an output holds before a call, so that a byte written past the stated ones shows. */
+enum { CANARY = 0xC5, ROOM = 32 };
+
+static int checks = 0;
+static int differ = 0;
+
+static void check(const char *what, bool holds) {
+    checks += 1;
+    if (!holds) {
+        differ += 1;
+        printf("differs: %s\n", what);
+    }
+}
+
+static void clear(uint8_t *out) {
+    memset(out, CANARY, ROOM);
+}
+
+/* Whether out begins with the expected bytes, and the rest is as it was. */
+static bool holds(const uint8_t *out, const uint8_t *expected, size_t length) {
+    for (size_t k = length; k < ROOM; k += 1) {
+        if (out[k] != CANARY) {
+            return false;
+        }
+    }
+    return memcmp(out, expected, length) == 0;
+}
+
+static void samples(void) {
+    const uint8_t a_raw[6] = {0x01, 0x00, 0x02, 0x00, 0xFF, 0xFF};
+    const uint8_t a_out[6] = {0x00, 0x01, 0x00, 0x03, 0x00, 0x02};
+    const uint8_t c_raw[4] = {5, 251, 7, 1};
+    const uint8_t c_out[4] = {5, 0, 7, 8};
+    uint8_t out[ROOM];
+
+    clear(out);
+    check("A", hamrisk_convert(a_raw, 6, 6, 1, 2, true, true, false, out, ROOM) == HAMRISK_DONE && holds(out, a_out, 6));
+    clear(out);
+    check("C", hamrisk_convert(c_raw, 4, 2, 1, 1, true, true, true, out, 4) == HAMRISK_DONE && holds(out, c_out, 4));
+    clear(out);
+    check("D", hamrisk_forward(c_out, 4, 2, 1, 1, true, true, true, out, 4) == HAMRISK_DONE && holds(out, c_raw, 4));
+
+    clear(out);
+    check("width 3 and a ragged row",
+          hamrisk_convert(a_raw, 6, 7, 1, 3, true, true, true, out, 0) == HAMRISK_UNSUPPORTED && holds(out, NULL, 0));
+    check("a ragged row and a short output",
+          hamrisk_convert(a_raw, 6, 5, 1, 2, true, true, true, out, 0) == HAMRISK_INVALID && holds(out, NULL, 0));
+    check("a short output",
+          hamrisk_convert(a_raw, 6, 6, 1, 2, true, true, true, out, 5) == HAMRISK_OUTPUT_TOO_SMALL && holds(out, NULL, 0));
+    check("64 channels", hamrisk_check_strip(128, 64, 64, 1) == HAMRISK_DONE);
+    check("65 channels", hamrisk_check_strip(130, 65, 65, 1) == HAMRISK_UNSUPPORTED);
+}
+
+static void bytes(void) {
+    const uint8_t raw[6] = {1, 2, 3, 4, 5, 6};
+    const uint8_t swapped[6] = {3, 2, 1, 6, 5, 4};
+    const uint8_t reversed[2] = {128, 10};
+    uint8_t out[ROOM];
+    uint64_t word = 77;
+    uint32_t sample = 77;
+
+    clear(out);
+    out[0] = 1;
+    out[1] = 80;
+    hamrisk_reverse_bits(out, 2);
+    check("E", holds(out, reversed, 2));
+    clear(out);
+    check("F", hamrisk_swap_components(raw, 6, 3, out, 6) == HAMRISK_DONE && holds(out, swapped, 6));
+    clear(out);
+    check("a copy", hamrisk_commit(raw, 6, out, 6) == HAMRISK_DONE && holds(out, raw, 6));
+
+    check("a place that would wrap", hamrisk_read_word(raw, 6, SIZE_MAX, 2, true, &word) == HAMRISK_TRUNCATED && word == 77);
+    check("a word", hamrisk_read_word(raw, 6, 2, 4, false, &word) == HAMRISK_DONE && word == 0x03040506);
+    check("a sample past the end", hamrisk_load(raw, 6, 3, true, true, &sample) == HAMRISK_TRUNCATED && sample == 77);
+    check("a sample", hamrisk_load(raw, 6, 2, true, true, &sample) == HAMRISK_DONE && sample == 0x0605);
+}
+
+static void damage(void) {
+    const uint8_t predicted[8] = {0, 1, 1, 1, 0, 0, 0, 0};
+    const uint8_t unpredicted[8] = {0, 1, 0, 0, 0, 0, 0, 0};
+    const uint8_t two_channels[8] = {0, 1, 0, 1, 0, 0, 0, 0};
+    uint8_t map[16] = {0};
+    uint8_t out[ROOM];
+    size_t count = 77;
+
+    map[3] = 1;
+    clear(out);
+    check("L, short marks", hamrisk_marks(map, 16, 8, 1, 2, true, out, 7, &count) == HAMRISK_OUTPUT_TOO_SMALL
+                                && count == 77 && holds(out, NULL, 0));
+    check("L, predicted", hamrisk_marks(map, 16, 8, 1, 2, true, out, ROOM, &count) == HAMRISK_DONE && count == 3
+                              && holds(out, predicted, 8));
+    clear(out);
+    check("L, unpredicted", hamrisk_marks(map, 16, 8, 1, 2, false, out, 8, &count) == HAMRISK_DONE && count == 1
+                                && holds(out, unpredicted, 8));
+    clear(out);
+    check("L, 2 channels", hamrisk_marks(map, 16, 8, 2, 2, true, out, 8, &count) == HAMRISK_DONE && count == 2
+                               && holds(out, two_channels, 8));
+}
+
+static void pictures(void) {
+    const uint8_t planes[6] = {1, 2, 3, 4, 5, 6};
+    const uint8_t picture[6] = {1, 3, 5, 2, 4, 6};
+    const uint8_t j_raw[2] = {0x34, 0x12};
+    const uint8_t j_out[2] = {0x12, 0x34};
+    const uint8_t grey[1] = {7};
+    uint8_t out[ROOM];
+    size_t derived[7] = {77, 77, 77, 77, 77, 77, 77};
+    size_t place = 77;
+
+    clear(out);
+    check("I", hamrisk_render(2, 1, 3, 1, 1, false, true, false, false, 0, 0, planes, 0, planes, 6, out, ROOM) == HAMRISK_DONE
+                   && holds(out, picture, 6));
+    clear(out);
+    check("I, written", hamrisk_write_planes(2, 1, 3, 1, 1, false, true, false, false, 0, 0, picture, 6, out, 6) == HAMRISK_DONE
+                            && holds(out, planes, 6));
+    clear(out);
+    check("J", hamrisk_render(1, 1, 1, 2, 1, false, false, true, false, 0, 0, planes, 0, j_raw, 2, out, 2) == HAMRISK_DONE
+                   && holds(out, j_out, 2));
+
+    clear(out);
+    check("a palette past the file",
+          hamrisk_render(1, 1, 3, 1, 8, true, false, false, false, 0, SIZE_MAX, planes, 6, planes, 6, out, ROOM)
+                  == HAMRISK_TRUNCATED
+              && holds(out, NULL, 0));
+    check("a bilevel 7",
+          hamrisk_write_planes(1, 1, 1, 1, 8, false, false, false, false, 0, 0, grey, 1, out, 1) == HAMRISK_INVALID
+              && holds(out, NULL, 0));
+    check("w 16385", hamrisk_check_layout(16385, 1, 1, 1, 1, false, false, false, false, 0, 0, derived) == HAMRISK_LIMIT
+                         && derived[0] == 77 && derived[6] == 77);
+    check("w 9, bilevel", hamrisk_check_layout(9, 2, 1, 1, 8, false, false, false, false, 0, 0, derived) == HAMRISK_DONE
+                              && derived[0] == 2 && derived[4] == 4 && derived[5] == 18 && derived[6] == 2);
+    check("past the picture",
+          hamrisk_index(2, 1, 3, 1, 1, false, true, false, false, 0, 0, 6, &place) == HAMRISK_INVALID && place == 77);
+    check("its second byte",
+          hamrisk_index(2, 1, 3, 1, 1, false, true, false, false, 0, 0, 1, &place) == HAMRISK_DONE && place == 2);
+}
+
+int main(void) {
+    samples();
+    bytes();
+    damage();
+    pictures();
+    printf("%d checks, %d differ\n", checks, differ);
+    return differ == 0 ? 0 : 1;
+}

@@ -1,0 +1,201 @@
+//! Which number a refusal is about: each call's faults in the order in which the library looks for them.
+
+use crate::failure::Fault;
+use hamrisk::Refusal::{self, Invalid, Limit, Truncated, Unsupported};
+use hamrisk::{check_layout, Layout, Strip};
+
+/// The limits of a layout: columns or rows, and bytes of the picture.
+const MOST_SIDE: usize = 16_384;
+const MOST_BYTES: u128 = 1 << 30;
+
+/// A fault, if it is one.
+fn fault(holds: bool, refusal: Refusal, text: impl Into<String>) -> Option<Fault> {
+    holds.then(|| (refusal, text.into()))
+}
+
+/// The first fault of these.
+fn first<const N: usize>(faults: [Option<Fault>; N]) -> Option<Fault> {
+    faults.into_iter().flatten().next()
+}
+
+/// Whether n is no multiple of `of`, a 0 being a fault of its own.
+fn ragged(n: usize, of: usize) -> bool {
+    of != 0 && n % of != 0
+}
+
+pub fn of_strip(length: usize, strip: Strip) -> Option<Fault> {
+    let Strip { row_bytes, channels, width } = strip;
+    let pixel = channels.saturating_mul(width);
+    let row = format!("row bytes {row_bytes}");
+    first([
+        fault(![1, 2, 4, 8].contains(&width), Unsupported, format!("width {width} is none of 1, 2, 4 and 8")),
+        fault(!(1..=64).contains(&channels), Unsupported, format!("channels {channels} is not 1 to 64")),
+        fault(row_bytes == 0, Unsupported, format!("{row} is not served")),
+        fault(
+            ragged(row_bytes, pixel),
+            Invalid,
+            format!("{row} is no multiple of channels {channels} × width {width} ({pixel})"),
+        ),
+        fault(ragged(length, row_bytes), Invalid, format!("length {length} is no multiple of {row}")),
+    ])
+}
+
+pub fn of_swap(length: usize, width: usize) -> Option<Fault> {
+    first([
+        fault(!(1..=8).contains(&width), Unsupported, format!("width {width} is not 1 to 8")),
+        fault(ragged(length, width), Invalid, format!("length {length} is no multiple of width {width}")),
+    ])
+}
+
+fn of_layout(l: &Layout) -> Option<Fault> {
+    not_served(l).or_else(|| contradiction(l)).or_else(|| above_limit(l))
+}
+
+fn not_served(l: &Layout) -> Option<Fault> {
+    let Layout { ch, bytes, slots, alpha, .. } = *l;
+    first([
+        fault(![1, 2, 8].contains(&bytes), Unsupported, format!("bytes {bytes} is none of 1, 2 and 8")),
+        fault(!(1..=4).contains(&ch), Unsupported, format!("ch {ch} is not 1 to 4")),
+        fault(![1, 2, 8].contains(&slots), Unsupported, format!("slots {slots} is none of 1, 2 and 8")),
+        fault(alpha > 2, Unsupported, format!("alpha {alpha} is above 2")),
+    ])
+}
+
+fn contradiction(l: &Layout) -> Option<Fault> {
+    let Layout { w, h, ch, bytes, slots, palette, separate, white, alpha, .. } = *l;
+    let (eight, has_alpha) = (bytes == 8, alpha != 0);
+    let packed = !palette && slots == 8;
+    first([
+        fault(w == 0, Invalid, "w 0 leaves no picture"),
+        fault(h == 0, Invalid, "h 0 leaves no picture"),
+        fault(eight && white, Invalid, "bytes 8 does not go with white"),
+        fault(eight && palette, Invalid, "bytes 8 does not go with a palette"),
+        fault(eight && has_alpha, Invalid, format!("bytes 8 does not go with alpha {alpha}")),
+        fault(eight && slots != 1, Invalid, format!("bytes 8 needs slots 1, not {slots}")),
+        fault(eight && ch != 1 && ch != 3, Invalid, format!("bytes 8 needs ch 1 or 3, not {ch}")),
+        fault(has_alpha && bytes != 1, Invalid, format!("alpha {alpha} needs bytes 1, not {bytes}")),
+        fault(has_alpha && ch != 2 && ch != 4, Invalid, format!("alpha {alpha} needs ch 2 or 4, not {ch}")),
+        fault(has_alpha && palette, Invalid, format!("alpha {alpha} does not go with a palette")),
+        fault(palette && ch != 3, Invalid, format!("a palette needs ch 3, not {ch}")),
+        fault(palette && bytes != 1, Invalid, format!("a palette needs bytes 1, not {bytes}")),
+        fault(palette && separate, Invalid, "a palette does not go with separate"),
+        fault(!palette && slots == 2, Invalid, "slots 2 needs a palette"),
+        fault(packed && has_alpha, Invalid, format!("slots 8 does not go with alpha {alpha}")),
+        fault(packed && ch != 1, Invalid, format!("slots 8 without a palette needs ch 1, not {ch}")),
+        fault(packed && bytes != 1, Invalid, format!("slots 8 needs bytes 1, not {bytes}")),
+    ])
+}
+
+fn above_limit(l: &Layout) -> Option<Fault> {
+    let Layout { w, h, ch, bytes, .. } = *l;
+    let size = [w, h, ch, bytes].iter().fold(1, |size: u128, &n| size.saturating_mul(n as u128));
+    first([
+        fault(w > MOST_SIDE, Limit, format!("w {w} is above {MOST_SIDE}")),
+        fault(h > MOST_SIDE, Limit, format!("h {h} is above {MOST_SIDE}")),
+        fault(
+            size > MOST_BYTES,
+            Limit,
+            format!("w {w} × h {h} × ch {ch} × bytes {bytes} is {size}, above {MOST_BYTES}"),
+        ),
+    ])
+}
+
+pub fn of_render(l: &Layout, file_length: usize, raw_length: usize) -> Option<Fault> {
+    let Ok(d) = check_layout(l) else {
+        return of_layout(l);
+    };
+    let (map, colours, needed) = (l.map, d.colours, d.scratch_length);
+    let end = map as u128 + 6 * colours as u128;
+    first([
+        fault(l.bytes == 8, Unsupported, "bytes 8 is not rendered"),
+        fault(
+            l.palette && end > file_length as u128,
+            Truncated,
+            format!("the palette of {colours} colours at map {map} ends at byte {end}, and its file has {file_length} bytes"),
+        ),
+        fault(raw_length < needed, Truncated, format!("the planes have {raw_length} bytes and need {needed}")),
+    ])
+}
+
+pub fn of_planes(l: &Layout, picture: &[u8]) -> Option<Fault> {
+    let Ok(d) = check_layout(l) else {
+        return of_layout(l);
+    };
+    let (length, needed) = (picture.len(), d.output_length);
+    let numbers = first([
+        fault(l.palette, Unsupported, "a palette is not written"),
+        fault(l.bytes == 8, Unsupported, "bytes 8 is not written"),
+        fault(l.alpha == 1, Unsupported, "alpha 1 is not written"),
+        fault(length < needed, Truncated, format!("the picture has {length} bytes and needs {needed}")),
+    ]);
+    numbers.or_else(|| grey_byte(l, picture))
+}
+
+/// The first byte of a bilevel picture that is neither black nor white.
+fn grey_byte(l: &Layout, picture: &[u8]) -> Option<Fault> {
+    if l.slots != 8 {
+        return None;
+    }
+    let at = picture.iter().take(l.w * l.h).position(|&v| v != 0 && v != 255)?;
+    let (row, column, value) = (at / l.w, at % l.w, picture[at]);
+    Some((Invalid, format!("byte {at} of the picture, row {row} and column {column}, is {value}, neither 0 nor 255")))
+}
+
+#[cfg(test)]
+mod tests {
+    use super::*;
+    use hamrisk::{check_strip, rendered, swap_components, written};
+
+    /// The fault that is named is one that leads to the library's refusal; without a refusal there is none.
+    #[track_caller]
+    fn assert_agrees<T>(answer: Result<T, Refusal>, fault: Option<Fault>) {
+        assert_eq!(answer.err(), fault.as_ref().map(|(kind, _)| *kind), "{fault:?}");
+    }
+
+    #[test]
+    fn faults_of_strips_agree_with_the_library() {
+        let sizes = [0, 1, 2, 3, 4, 6, 8, 12, 64, 65, 130, usize::MAX];
+        for length in sizes {
+            for (row_bytes, channels) in sizes.into_iter().flat_map(|row| sizes.map(|channels| (row, channels))) {
+                for width in sizes {
+                    let strip = Strip { row_bytes, channels, width };
+                    assert_agrees(check_strip(length, strip), of_strip(length, strip));
+                }
+            }
+        }
+    }
+
+    #[test]
+    fn faults_of_swaps_agree_with_the_library() {
+        for (length, width) in (0..30).flat_map(|length| (0..11).map(move |width| (length, width))) {
+            assert_agrees(swap_components(&vec![0; length], width, &mut vec![0; length]), of_swap(length, width));
+        }
+    }
+
+    #[test]
+    fn faults_of_layouts_agree_with_the_library() {
+        let sides = [(0, 1), (1, 0), (3, 2), (9, 1), (16_385, 1), (1, 16_385), (usize::MAX, usize::MAX)];
+        let flags = |bits: usize| [bits & 1 == 1, bits & 2 == 2, bits & 4 == 4];
+        for case in 0..7 * 6 * 5 * 4 * 4 * 8 {
+            let mut rest = case;
+            let mut pick = |count: usize| {
+                let place = rest % count;
+                rest /= count;
+                place
+            };
+            let (w, h) = sides[pick(7)];
+            let ch = pick(6);
+            let bytes = [0, 1, 2, 3, 8][pick(5)];
+            let slots = [1, 2, 8, 9][pick(4)];
+            let alpha = pick(4);
+            let [palette, separate, white] = flags(pick(8));
+            let l = Layout { ch, bytes, slots, alpha, palette, separate, white, map: 3, ..Layout::grey(w, h) };
+            for length in [0, 2, 12, 100, 1539] {
+                let content = [7; 1539];
+                let some = &content[..length];
+                assert_agrees(rendered(&l, some, some), of_render(&l, length, length));
+                assert_agrees(written(&l, some), of_planes(&l, some));
+            }
+        }
+    }
+}

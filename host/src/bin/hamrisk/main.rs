@@ -1,0 +1,49 @@
+//! `hamrisk`: the calls of the library over files. See `hamrisk --help`.
+
+mod args;
+mod demo;
+mod failure;
+mod faults;
+mod files;
+mod help;
+mod layouts;
+mod pictures;
+mod progress;
+mod strips;
+
+use args::Args;
+use failure::Failure;
+use help::{Command, COMMANDS};
+use std::ffi::{OsStr, OsString};
+use std::process::ExitCode;
+
+fn main() -> ExitCode {
+    let words: Vec<OsString> = std::env::args_os().skip(1).collect();
+    match run(&words) {
+        Ok(()) => ExitCode::SUCCESS,
+        Err(failure) => {
+            eprintln!("hamrisk: {failure}");
+            ExitCode::from(failure.status())
+        }
+    }
+}
+
+fn run(words: &[OsString]) -> Result<(), Failure> {
+    let Some((name, words)) = words.split_first() else {
+        return Err(Failure::Usage("no command is given; see hamrisk --help".into()));
+    };
+    if name == "--help" || name == "-h" {
+        return files::print(&help::overview());
+    }
+    let command = find(name)?;
+    if words.iter().take_while(|word| *word != "--").any(|word| word == "--help" || word == "-h") {
+        return files::print(&help::of(command));
+    }
+    let args = Args::parse(command, words)?;
+    (command.run)(&args)
+}
+
+fn find(name: &OsStr) -> Result<&'static Command, Failure> {
+    let unknown = || Failure::Usage(format!("there is no command '{}'; see hamrisk --help", name.to_string_lossy()));
+    COMMANDS.iter().find(|command| command.name == name).ok_or_else(unknown)
+}

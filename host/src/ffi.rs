@@ -1,0 +1,378 @@
+//! The calls, each handed to its function of the archive. All `unsafe` code of the crate stands here.
+//!
+//! What the header `include/hamrisk.h` asks of its caller, slices and references give: a slice's pointer is not null and
+//! stands for as many initialised bytes as its length says, what is lent to be written overlaps nothing else, a lent
+//! number is aligned, and a `bool` is 0 or 1.
+
+use crate::{ByteAt, ByteOrder, Coding, Derived, Layout, Refusal, SampleAt, Strip};
+
+/// Declares functions of the archive that take a strip and its coding.
+macro_rules! declare_over_strip {
+    ($($name:ident;)*) => {
+        extern "C" {
+            $(fn $name(
+                raw: *const u8, raw_len: usize, row_bytes: usize, channels: usize, width: usize, le: bool, predict: bool,
+                out_le: bool, out: *mut u8, out_len: usize
+            ) -> u32;)*
+        }
+    };
+}
+
+/// Calls one of them.
+macro_rules! call_over_strip {
+    ($name:ident($raw:expr, $strip:expr, $coding:expr, $out:expr)) => {
+        $name(
+            $raw.as_ptr(),
+            $raw.len(),
+            $strip.row_bytes,
+            $strip.channels,
+            $strip.width,
+            is_little($coding.from),
+            $coding.predict,
+            is_little($coding.to),
+            $out.as_mut_ptr(),
+            $out.len(),
+        )
+    };
+}
+
+/// Declares functions of the archive that take a layout, its eleven numbers first.
+macro_rules! declare_over_layout {
+    ($($name:ident($($arg:ident: $kind:ty),*);)*) => {
+        extern "C" {
+            $(fn $name(
+                w: usize, h: usize, ch: usize, bytes: usize, slots: usize, palette: bool, separate: bool, le: bool,
+                white: bool, alpha: usize, map: usize, $($arg: $kind),*
+            ) -> u32;)*
+        }
+    };
+}
+
+/// Calls one of them.
+macro_rules! call_over_layout {
+    ($name:ident($l:expr, $($arg:expr),*)) => {
+        $name(
+            $l.w, $l.h, $l.ch, $l.bytes, $l.slots, $l.palette, $l.separate, is_little($l.order),
+            $l.white, $l.alpha, $l.map, $($arg),*
+        )
+    };
+}
+
+extern "C" {
+    fn hamrisk_read_word(s: *const u8, s_len: usize, at: usize, width: usize, le: bool, value: *mut u64) -> u32;
+    fn hamrisk_load(s: *const u8, s_len: usize, i: usize, wide: bool, le: bool, value: *mut u32) -> u32;
+    fn hamrisk_check_strip(raw_len: usize, row_bytes: usize, channels: usize, width: usize) -> u32;
+    fn hamrisk_marks(
+        damage: *const u8,
+        damage_len: usize,
+        row_bytes: usize,
+        channels: usize,
+        width: usize,
+        predict: bool,
+        marks: *mut u8,
+        marks_len: usize,
+        count: *mut usize,
+    ) -> u32;
+    fn hamrisk_reverse_bits(s: *mut u8, s_len: usize);
+    fn hamrisk_swap_components(raw: *const u8, raw_len: usize, width: usize, out: *mut u8, out_len: usize) -> u32;
+    fn hamrisk_commit(source: *const u8, source_len: usize, out: *mut u8, out_len: usize) -> u32;
+}
+
+declare_over_strip! {
+    hamrisk_convert;
+    hamrisk_forward;
+}
+
+declare_over_layout! {
+    hamrisk_check_layout(derived: *mut usize);
+    hamrisk_index(k: usize, place: *mut usize);
+    hamrisk_render(file: *const u8, file_len: usize, raw: *const u8, raw_len: usize, out: *mut u8, out_len: usize);
+    hamrisk_write_planes(picture: *const u8, picture_len: usize, planes: *mut u8, planes_len: usize);
+}
+
+/// What the archive's answer means.
+fn done(status: u32) -> Result<(), Refusal> {
+    match status {
+        0 => Ok(()),
+        1 => Err(Refusal::Unsupported),
+        2 => Err(Refusal::Invalid),
+        3 => Err(Refusal::Truncated),
+        4 => Err(Refusal::OutputTooSmall),
+        5 => Err(Refusal::Limit),
+        other => unreachable!("a call answers 0 to 5, not {other}"),
+    }
+}
+
+fn is_little(order: ByteOrder) -> bool {
+    order == ByteOrder::Little
+}
+
+/// The word of `width` bytes at a byte of `s`.
+///
+/// Refuses: a width not 1, 2, 4 or 8 is Unsupported; `at` + `width` past the end is Truncated.
+///
+/// ```
+/// use hamrisk::{read_word, ByteAt, ByteOrder, Refusal};
+///
+/// assert_eq!(read_word(&[9, 1, 2], ByteAt(1), 2, ByteOrder::Big), Ok(0x0102));
+/// assert_eq!(read_word(&[9, 1, 2], ByteAt(usize::MAX), 2, ByteOrder::Big), Err(Refusal::Truncated));
+/// ```
+pub fn read_word(s: &[u8], at: ByteAt, width: usize, order: ByteOrder) -> Result<u64, Refusal> {
+    let mut value = 0;
+    // SAFETY: the pointers are a slice's and a local number's, as the header asks.
+    done(unsafe { hamrisk_read_word(s.as_ptr(), s.len(), at.0, width, is_little(order), &mut value) })?;
+    Ok(value)
+}
+
+/// Sample `i` of `s`, of two bytes if `wide`, else of one.
+///
+/// Refuses: a sample not all within `s` is Truncated.
+///
+/// ```
+/// use hamrisk::{load, ByteOrder, Refusal, SampleAt};
+///
+/// assert_eq!(load(&[9, 9, 1, 2], SampleAt(1), true, ByteOrder::Little), Ok(0x0201));
+/// assert_eq!(load(&[9, 9, 1, 2], SampleAt(2), true, ByteOrder::Little), Err(Refusal::Truncated));
+/// ```
+pub fn load(s: &[u8], i: SampleAt, wide: bool, order: ByteOrder) -> Result<u32, Refusal> {
+    let mut value = 0;
+    // SAFETY: the pointers are a slice's and a local number's, as the header asks.
+    done(unsafe { hamrisk_load(s.as_ptr(), s.len(), i.0, wide, is_little(order), &mut value) })?;
+    Ok(value)
+}
+
+/// Whether a strip of `raw_len` bytes has this geometry.
+///
+/// Refuses: a width not 1, 2, 4 or 8, channels 0 or above 64, or row bytes 0 is Unsupported; then row bytes no multiple
+/// of channels × width, or `raw_len` no multiple of row bytes, is Invalid.
+///
+/// ```
+/// use hamrisk::{check_strip, Refusal, Strip};
+///
+/// assert_eq!(check_strip(12, Strip { row_bytes: 6, channels: 3, width: 1 }), Ok(()));
+/// assert_eq!(check_strip(12, Strip { row_bytes: 7, channels: 3, width: 3 }), Err(Refusal::Unsupported));
+/// assert_eq!(check_strip(12, Strip { row_bytes: 7, channels: 3, width: 2 }), Err(Refusal::Invalid));
+/// ```
+pub fn check_strip(raw_len: usize, strip: Strip) -> Result<(), Refusal> {
+    // SAFETY: no pointer is handed over.
+    done(unsafe { hamrisk_check_strip(raw_len, strip.row_bytes, strip.channels, strip.width) })
+}
+
+/// The samples of a strip. With prediction each sample but a row's first pixel is its word plus the sample a pixel
+/// before it, modulo 256^width; without, it is its word.
+///
+/// Refuses: as [`check_strip`]; then `out` shorter than `raw` is OutputTooSmall. Writes `raw.len()` bytes of `out`.
+///
+/// ```
+/// use hamrisk::{convert, Coding, Refusal, Strip};
+///
+/// let mut out = [0; 5];
+/// let strip = Strip { row_bytes: 2, channels: 1, width: 1 };
+/// convert(&[5, 251, 7, 1], strip, Coding { predict: true, ..Coding::default() }, &mut out)?;
+/// assert_eq!(out, [5, 0, 7, 8, 0]);
+/// # Ok::<(), Refusal>(())
+/// ```
+pub fn convert(raw: &[u8], strip: Strip, coding: Coding, out: &mut [u8]) -> Result<(), Refusal> {
+    // SAFETY: the pointers are two slices', which do not overlap, as the header asks.
+    done(unsafe { call_over_strip!(hamrisk_convert(raw, strip, coding, out)) })
+}
+
+/// Forward prediction, which [`convert`] undoes: with prediction each word but a row's first pixel is its sample less
+/// the sample a pixel before it, modulo 256^width; without, it is its sample.
+///
+/// Refuses: as [`convert`]. Writes `raw.len()` bytes of `out`.
+///
+/// ```
+/// use hamrisk::{forward, Coding, Refusal, Strip};
+///
+/// let mut out = [0; 4];
+/// let strip = Strip { row_bytes: 2, channels: 1, width: 1 };
+/// forward(&[5, 0, 7, 8], strip, Coding { predict: true, ..Coding::default() }, &mut out)?;
+/// assert_eq!(out, [5, 251, 7, 1]);
+/// # Ok::<(), Refusal>(())
+/// ```
+pub fn forward(raw: &[u8], strip: Strip, coding: Coding, out: &mut [u8]) -> Result<(), Refusal> {
+    // SAFETY: the pointers are two slices', which do not overlap, as the header asks.
+    done(unsafe { call_over_strip!(hamrisk_forward(raw, strip, coding, out)) })
+}
+
+/// Which samples of a strip the damaged bytes can change, and how many these are. `damage` has a byte for each byte of
+/// the strip: 0 for sound, anything else for damaged.
+///
+/// Refuses: as [`check_strip`], `damage.len()` being the strip's length; then `marks` shorter than `damage.len()` /
+/// width is OutputTooSmall. Writes that many bytes of `marks`: 1 for a marked sample, 0 for any other.
+///
+/// ```
+/// use hamrisk::{marks, Refusal, Strip};
+///
+/// let mut damage = [0; 16];
+/// damage[3] = 1;
+/// let mut out = [0; 8];
+/// let strip = Strip { row_bytes: 8, channels: 1, width: 2 };
+/// assert_eq!(marks(&damage, strip, true, &mut out)?, 3);
+/// assert_eq!(out, [0, 1, 1, 1, 0, 0, 0, 0]);
+/// # Ok::<(), Refusal>(())
+/// ```
+pub fn marks(damage: &[u8], strip: Strip, predict: bool, marks: &mut [u8]) -> Result<usize, Refusal> {
+    let mut count = 0;
+    // SAFETY: the pointers are two slices' and a local number's, which do not overlap, as the header asks.
+    done(unsafe {
+        hamrisk_marks(
+            damage.as_ptr(),
+            damage.len(),
+            strip.row_bytes,
+            strip.channels,
+            strip.width,
+            predict,
+            marks.as_mut_ptr(),
+            marks.len(),
+            &mut count,
+        )
+    })?;
+    Ok(count)
+}
+
+/// Bit i of every byte goes to bit 7 − i, in place. Never refuses.
+///
+/// ```
+/// let mut s = [1, 80];
+/// hamrisk::reverse_bits(&mut s);
+/// assert_eq!(s, [128, 10]);
+/// ```
+pub fn reverse_bits(s: &mut [u8]) {
+    // SAFETY: the pointer is a slice's, as the header asks.
+    unsafe { hamrisk_reverse_bits(s.as_mut_ptr(), s.len()) }
+}
+
+/// Each group of `width` bytes backwards.
+///
+/// Refuses: width 0 or above 8 is Unsupported; then a length no multiple of `width` is Invalid; then `out` shorter than
+/// `raw` is OutputTooSmall. Writes `raw.len()` bytes of `out`.
+///
+/// ```
+/// use hamrisk::{swap_components, Refusal};
+///
+/// let mut out = [0; 6];
+/// swap_components(&[1, 2, 3, 4, 5, 6], 3, &mut out)?;
+/// assert_eq!(out, [3, 2, 1, 6, 5, 4]);
+/// # Ok::<(), Refusal>(())
+/// ```
+pub fn swap_components(raw: &[u8], width: usize, out: &mut [u8]) -> Result<(), Refusal> {
+    // SAFETY: the pointers are two slices', which do not overlap, as the header asks.
+    done(unsafe { hamrisk_swap_components(raw.as_ptr(), raw.len(), width, out.as_mut_ptr(), out.len()) })
+}
+
+/// A copy of `source` at the front of `out`.
+///
+/// Refuses: `out` shorter than `source` is OutputTooSmall. Writes `source.len()` bytes of `out`.
+///
+/// ```
+/// use hamrisk::{commit, Refusal};
+///
+/// let mut out = [9; 3];
+/// commit(&[1, 2], &mut out)?;
+/// assert_eq!(out, [1, 2, 9]);
+/// # Ok::<(), Refusal>(())
+/// ```
+pub fn commit(source: &[u8], out: &mut [u8]) -> Result<(), Refusal> {
+    // SAFETY: the pointers are two slices', which do not overlap, as the header asks.
+    done(unsafe { hamrisk_commit(source.as_ptr(), source.len(), out.as_mut_ptr(), out.len()) })
+}
+
+/// Checks a layout and answers what follows from it.
+///
+/// Refuses, in this order:
+/// - Unsupported: bytes not 1, 2 or 8; ch not 1 to 4; slots not 1, 2 or 8; alpha above 2.
+/// - Invalid: w or h 0; bytes 8 with white, palette, alpha, slots not 1, or ch neither 1 nor 3; alpha with bytes not 1,
+///   ch neither 2 nor 4, or palette; palette with ch not 3, bytes not 1 or separate; without palette slots not 1,
+///   unless slots is 8, ch and bytes 1 and alpha 0.
+/// - Limit: w or h above 16,384, or w × h × ch × bytes above 1,073,741,824.
+///
+/// ```
+/// use hamrisk::{check_layout, Layout, Refusal};
+///
+/// assert_eq!(check_layout(&Layout::bilevel(9, 2))?.scratch_length, 4);
+/// assert_eq!(check_layout(&Layout::grey(16_385, 1)), Err(Refusal::Limit));
+/// # Ok::<(), Refusal>(())
+/// ```
+pub fn check_layout(layout: &Layout) -> Result<Derived, Refusal> {
+    let mut derived = [0; 7];
+    // SAFETY: the pointer is that of a local array of seven numbers, as the header asks.
+    done(unsafe { call_over_layout!(hamrisk_check_layout(layout, derived.as_mut_ptr())) })?;
+    let [encoded_width, plane_channels, planes, plane_length, scratch_length, output_length, colours] = derived;
+    Ok(Derived { encoded_width, plane_channels, planes, plane_length, scratch_length, output_length, colours })
+}
+
+/// Which byte of the planes byte `k` of the picture comes from.
+///
+/// Refuses: as [`check_layout`]; then `k` at or past the output length is Invalid.
+///
+/// ```
+/// use hamrisk::{index, ByteAt, Layout};
+///
+/// let apart = Layout { separate: true, ..Layout::colour(2, 1) };
+/// assert_eq!(index(&apart, ByteAt(1)), Ok(ByteAt(2)));
+/// ```
+pub fn index(layout: &Layout, k: ByteAt) -> Result<ByteAt, Refusal> {
+    let mut place = 0;
+    // SAFETY: the pointer is that of a local number, as the header asks.
+    done(unsafe { call_over_layout!(hamrisk_index(layout, k.0, &mut place)) })?;
+    Ok(ByteAt(place))
+}
+
+/// The picture that the planes `raw` hold. `file` has the palette, and is not read without one. Samples of two bytes
+/// come out most significant byte first.
+///
+/// Refuses: as [`check_layout`]; then bytes 8 is Unsupported; with a palette, map + 6 × colours past the end of `file` is
+/// Truncated; `raw` shorter than the scratch length is Truncated; `out` shorter than the output length is
+/// OutputTooSmall. Writes output length bytes of `out`.
+///
+/// ```
+/// use hamrisk::{render, Layout, Refusal};
+///
+/// let mut out = [7; 9];
+/// render(&Layout::bilevel(9, 1), &[], &[0x80, 0x80], &mut out)?;
+/// assert_eq!(out, [255, 0, 0, 0, 0, 0, 0, 0, 255]);
+/// # Ok::<(), Refusal>(())
+/// ```
+pub fn render(layout: &Layout, file: &[u8], raw: &[u8], out: &mut [u8]) -> Result<(), Refusal> {
+    // SAFETY: the pointers are three slices', and the one that is written overlaps no other, as the header asks.
+    done(unsafe {
+        call_over_layout!(hamrisk_render(
+            layout,
+            file.as_ptr(),
+            file.len(),
+            raw.as_ptr(),
+            raw.len(),
+            out.as_mut_ptr(),
+            out.len()
+        ))
+    })
+}
+
+/// The planes whose rendering is `picture`; padding bits are 0.
+///
+/// Refuses: as [`check_layout`]; then palette, bytes 8 or alpha 1 is Unsupported; `picture` shorter than the output
+/// length is Truncated; `planes` shorter than the scratch length is OutputTooSmall; in a bilevel picture a byte neither 0
+/// nor 255 is Invalid. Writes scratch length bytes of `planes`.
+///
+/// ```
+/// use hamrisk::{write_planes, Layout, Refusal};
+///
+/// let mut planes = [0; 2];
+/// write_planes(&Layout::bilevel(9, 1), &[255, 0, 0, 0, 0, 0, 0, 0, 255], &mut planes)?;
+/// assert_eq!(planes, [0x80, 0x80]);
+/// # Ok::<(), Refusal>(())
+/// ```
+pub fn write_planes(layout: &Layout, picture: &[u8], planes: &mut [u8]) -> Result<(), Refusal> {
+    // SAFETY: the pointers are two slices', which do not overlap, as the header asks.
+    done(unsafe {
+        call_over_layout!(hamrisk_write_planes(
+            layout,
+            picture.as_ptr(),
+            picture.len(),
+            planes.as_mut_ptr(),
+            planes.len()
+        ))
+    })
+}

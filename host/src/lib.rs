@@ -1,0 +1,35 @@
+//! The sample layer of TIFF, proved: words, byte swaps, bit reversal, predicted samples read and written, damage marks,
+//! layouts, and pictures rendered from planes and written to them.
+//!
+//! Each call here hands the caller's slices to a function of the library in `crates/capi`, which is proved to meet its
+//! promise on every input: it ends, stays within its slices, and refuses in a fixed order. A refusal writes nothing. A
+//! call that is done writes the stated bytes at the front of its output and leaves the bytes past them as they were.
+//! Nothing is allocated, but for the five calls that answer a `Vec`: [`converted`], [`forwarded`], [`marked`],
+//! [`rendered`] and [`written`].
+//!
+//! ```
+//! use hamrisk::{converted, ByteOrder, Coding, Refusal, Strip};
+//!
+//! // A row of three samples of two bytes, each stored as what it adds to the one before it.
+//! let raw = [0x01, 0x00, 0x02, 0x00, 0xFF, 0xFF];
+//! let strip = Strip { row_bytes: 6, channels: 1, width: 2 };
+//! let coding = Coding { from: ByteOrder::Little, to: ByteOrder::Big, predict: true };
+//! assert_eq!(converted(&raw, strip, coding)?, [0x00, 0x01, 0x00, 0x03, 0x00, 0x02]);
+//! assert_eq!(converted(&raw[..5], strip, coding), Err(Refusal::Invalid));
+//! # Ok::<(), Refusal>(())
+//! ```
+
+#![warn(missing_docs)]
+#![deny(unsafe_code)]
+
+#[allow(unsafe_code)]
+mod ffi;
+mod owned;
+mod types;
+
+pub use ffi::{
+    check_layout, check_strip, commit, convert, forward, index, load, marks, read_word, render, reverse_bits,
+    swap_components, write_planes,
+};
+pub use owned::{converted, forwarded, marked, rendered, written};
+pub use types::{ByteAt, ByteOrder, Coding, Derived, Layout, Refusal, SampleAt, Strip};

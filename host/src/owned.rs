@@ -1,0 +1,59 @@
+//! Calls that answer a `Vec` of the right length in place of writing to a slice.
+
+use crate::*;
+
+/// [`convert`] into a new `Vec`. Refuses as [`check_strip`].
+pub fn converted(raw: &[u8], strip: Strip, coding: Coding) -> Result<Vec<u8>, Refusal> {
+    let mut out = vec![0; raw.len()];
+    convert(raw, strip, coding, &mut out)?;
+    Ok(out)
+}
+
+/// [`forward`] into a new `Vec`. Refuses as [`check_strip`].
+///
+/// ```
+/// use hamrisk::{converted, forwarded, ByteOrder, Coding, Refusal, Strip};
+///
+/// let strip = Strip { row_bytes: 8, channels: 1, width: 4 };
+/// let coding = Coding { from: ByteOrder::Big, to: ByteOrder::Little, predict: true };
+/// let words = forwarded(b"any text", strip, coding)?;
+/// assert_eq!(converted(&words, strip, coding.back())?, b"any text");
+/// # Ok::<(), Refusal>(())
+/// ```
+pub fn forwarded(raw: &[u8], strip: Strip, coding: Coding) -> Result<Vec<u8>, Refusal> {
+    let mut out = vec![0; raw.len()];
+    forward(raw, strip, coding, &mut out)?;
+    Ok(out)
+}
+
+/// [`marks`] in a new `Vec`, and how many samples are marked. Refuses as [`check_strip`].
+pub fn marked(damage: &[u8], strip: Strip, predict: bool) -> Result<(Vec<u8>, usize), Refusal> {
+    check_strip(damage.len(), strip)?;
+    let mut out = vec![0; damage.len() / strip.width];
+    let count = marks(damage, strip, predict, &mut out)?;
+    Ok((out, count))
+}
+
+/// [`render`] into a new `Vec`. Refuses as [`render`], but for a short output.
+pub fn rendered(layout: &Layout, file: &[u8], raw: &[u8]) -> Result<Vec<u8>, Refusal> {
+    let mut out = vec![0; check_layout(layout)?.output_length];
+    render(layout, file, raw, &mut out)?;
+    Ok(out)
+}
+
+/// [`write_planes`] into a new `Vec`. Refuses as [`write_planes`], but for a short output.
+///
+/// ```
+/// use hamrisk::{rendered, written, Layout, Refusal};
+///
+/// let apart = Layout { separate: true, ..Layout::colour(2, 1) };
+/// let planes = written(&apart, &[1, 3, 5, 2, 4, 6])?;
+/// assert_eq!(planes, [1, 2, 3, 4, 5, 6]);
+/// assert_eq!(rendered(&apart, &[], &planes)?, [1, 3, 5, 2, 4, 6]);
+/// # Ok::<(), Refusal>(())
+/// ```
+pub fn written(layout: &Layout, picture: &[u8]) -> Result<Vec<u8>, Refusal> {
+    let mut planes = vec![0; check_layout(layout)?.scratch_length];
+    write_planes(layout, picture, &mut planes)?;
+    Ok(planes)
+}

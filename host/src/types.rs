@@ -1,0 +1,181 @@
+//! What the calls take and answer.
+
+use std::error::Error;
+use std::fmt;
+
+/// Why a call did nothing: the first fault, in the order that stands at the call.
+#[derive(Clone, Copy, Debug, PartialEq, Eq, Hash)]
+pub enum Refusal {
+    /// A width, channel count or mode not served.
+    Unsupported = 1,
+    /// Numbers that contradict each other, or forbidden content.
+    Invalid,
+    /// An input too short.
+    Truncated,
+    /// An output buffer too short.
+    OutputTooSmall,
+    /// A size above the limits of [`check_layout`](crate::check_layout).
+    Limit,
+}
+
+impl Refusal {
+    /// Its number, 1 to 5.
+    ///
+    /// ```
+    /// assert_eq!(hamrisk::Refusal::Truncated.number(), 3);
+    /// ```
+    pub fn number(self) -> u32 {
+        self as u32
+    }
+}
+
+impl fmt::Display for Refusal {
+    fn fmt(&self, f: &mut fmt::Formatter) -> fmt::Result {
+        f.write_str(match self {
+            Refusal::Unsupported => "a width, channel count or mode not served",
+            Refusal::Invalid => "numbers that contradict each other, or forbidden content",
+            Refusal::Truncated => "an input too short",
+            Refusal::OutputTooSmall => "an output buffer too short",
+            Refusal::Limit => "a size above the limit",
+        })
+    }
+}
+
+impl Error for Refusal {}
+
+/// A place counted in bytes.
+#[derive(Clone, Copy, Debug, PartialEq, Eq, PartialOrd, Ord, Hash)]
+pub struct ByteAt(pub usize);
+
+/// A place counted in samples.
+#[derive(Clone, Copy, Debug, PartialEq, Eq, PartialOrd, Ord, Hash)]
+pub struct SampleAt(pub usize);
+
+/// Which byte of a word comes first.
+#[derive(Clone, Copy, Debug, Default, PartialEq, Eq, Hash)]
+pub enum ByteOrder {
+    /// The least significant one.
+    #[default]
+    Little,
+    /// The most significant one.
+    Big,
+}
+
+/// The geometry of a strip: rows of pixels of samples, one after the other.
+#[derive(Clone, Copy, Debug, PartialEq, Eq, Hash)]
+pub struct Strip {
+    /// Bytes of a row.
+    pub row_bytes: usize,
+    /// Samples of a pixel.
+    pub channels: usize,
+    /// Bytes of a sample.
+    pub width: usize,
+}
+
+/// How a strip is read and written.
+#[derive(Clone, Copy, Debug, Default, PartialEq, Eq, Hash)]
+pub struct Coding {
+    /// The byte order that is read.
+    pub from: ByteOrder,
+    /// The byte order that is written.
+    pub to: ByteOrder,
+    /// Whether each sample but a row's first pixel is stored less the one a pixel before it.
+    pub predict: bool,
+}
+
+impl Coding {
+    /// The coding of the way back: [`forward`](crate::forward) with one and [`convert`](crate::convert) with the other
+    /// give the first bytes back.
+    pub fn back(self) -> Coding {
+        Coding { from: self.to, to: self.from, predict: self.predict }
+    }
+}
+
+/// A picture, and how its planes hold it. Build one from [`grey`](Layout::grey), [`colour`](Layout::colour),
+/// [`bilevel`](Layout::bilevel) or [`indexed`](Layout::indexed) and change what differs:
+///
+/// ```
+/// use hamrisk::{check_layout, ByteOrder, Layout, Refusal};
+///
+/// let depth = Layout { bytes: 2, order: ByteOrder::Little, ..Layout::grey(640, 480) };
+/// assert_eq!(check_layout(&depth)?.output_length, 614_400);
+/// # Ok::<(), Refusal>(())
+/// ```
+#[derive(Clone, Copy, Debug, PartialEq, Eq, Hash)]
+pub struct Layout {
+    /// Columns of the picture.
+    pub w: usize,
+    /// Rows of the picture.
+    pub h: usize,
+    /// Channels of a pixel, as it is rendered: 1 to 4.
+    pub ch: usize,
+    /// Bytes of a channel, as it is rendered: 1 or 2; 8 is a layout but is neither rendered nor written.
+    pub bytes: usize,
+    /// Samples in a byte of the planes: 8 in a bilevel picture, 1, 2 or 8 with a palette, else 1.
+    pub slots: usize,
+    /// Whether the planes hold indices of colours.
+    pub palette: bool,
+    /// Whether each channel stands in a plane of its own.
+    pub separate: bool,
+    /// The byte order of the planes, and of the palette.
+    pub order: ByteOrder,
+    /// Whether 0 is white; a palette ignores it.
+    pub white: bool,
+    /// 0: no alpha; 1: the last channel is alpha and the others are multiplied by it; 2: it is, and they are not.
+    pub alpha: usize,
+    /// The byte of the file at which the palette begins: all reds, then greens, then blues, two bytes each.
+    pub map: usize,
+}
+
+impl Layout {
+    /// One channel of one byte, 0 black.
+    pub fn grey(w: usize, h: usize) -> Layout {
+        Layout {
+            w,
+            h,
+            ch: 1,
+            bytes: 1,
+            slots: 1,
+            palette: false,
+            separate: false,
+            order: ByteOrder::Little,
+            white: false,
+            alpha: 0,
+            map: 0,
+        }
+    }
+
+    /// Three channels of one byte, side by side.
+    pub fn colour(w: usize, h: usize) -> Layout {
+        Layout { ch: 3, ..Layout::grey(w, h) }
+    }
+
+    /// One channel of a bit, 0 black.
+    pub fn bilevel(w: usize, h: usize) -> Layout {
+        Layout { slots: 8, ..Layout::grey(w, h) }
+    }
+
+    /// Indices of colours, `slots` in a byte, with the palette at byte `map` of the file.
+    pub fn indexed(w: usize, h: usize, slots: usize, map: usize) -> Layout {
+        Layout { slots, palette: true, map, ..Layout::colour(w, h) }
+    }
+}
+
+/// What follows from a layout.
+#[derive(Clone, Copy, Debug, PartialEq, Eq, Hash)]
+pub struct Derived {
+    /// Places in a row of a plane: pixels, or bytes that hold several samples.
+    pub encoded_width: usize,
+    /// Bytes at a place.
+    pub plane_channels: usize,
+    /// How many planes there are.
+    pub planes: usize,
+    /// Bytes of a plane.
+    pub plane_length: usize,
+    /// Bytes of all planes.
+    pub scratch_length: usize,
+    /// Bytes of the picture.
+    pub output_length: usize,
+    /// Colours of a palette.
+    pub colours: usize,
+}

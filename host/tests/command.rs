@@ -1,0 +1,300 @@
+//! The command over files: what each subcommand writes, what it says when it is refused, and that it leaves nothing behind.
+
+use hamrisk::{Coding, Strip};
+use std::ffi::OsStr;
+use std::fs;
+use std::os::unix::ffi::OsStrExt;
+use std::path::{Path, PathBuf};
+use std::process::Command;
+
+/// A folder of its own for each test, removed at its end.
+struct Folder(PathBuf);
+
+impl Folder {
+    fn new(name: &str) -> Folder {
+        let path = Path::new(env!("CARGO_TARGET_TMPDIR")).join(format!("{name}-{}", std::process::id()));
+        fs::create_dir_all(&path).unwrap();
+        Folder(path)
+    }
+
+    fn put(&self, name: &str, bytes: &[u8]) {
+        fs::write(self.0.join(name), bytes).unwrap();
+    }
+
+    fn get(&self, name: &str) -> Vec<u8> {
+        fs::read(self.0.join(name)).unwrap()
+    }
+
+    fn names(&self) -> Vec<String> {
+        let entries = fs::read_dir(&self.0).unwrap();
+        let mut names: Vec<String> = entries.map(|e| e.unwrap().file_name().into_string().unwrap()).collect();
+        names.sort();
+        names
+    }
+
+    /// Runs the command in this folder on the words of a line; answers its exit status, standard output and error.
+    fn run(&self, line: &str) -> (i32, String, String) {
+        let mut command = Command::new(env!("CARGO_BIN_EXE_hamrisk"));
+        let done = command.args(line.split_whitespace()).current_dir(&self.0).output().unwrap();
+        let text = |bytes: Vec<u8>| String::from_utf8(bytes).unwrap();
+        (done.status.code().unwrap(), text(done.stdout), text(done.stderr))
+    }
+
+    /// Runs the command on `in`, and takes what it wrote to `out`.
+    #[track_caller]
+    fn written(&self, input: &[u8], line: &str) -> Vec<u8> {
+        self.put("in", input);
+        let (status, _, error) = self.run(line);
+        assert_eq!((status, error.as_str()), (0, ""), "{line}");
+        let bytes = self.get("out");
+        fs::remove_file(self.0.join("out")).unwrap();
+        bytes
+    }
+
+    /// Runs the command on `in`, which it must refuse with these words; an `out` that was there stays.
+    #[track_caller]
+    fn refused(&self, input: &[u8], line: &str, status: i32, words: &str) {
+        self.put("in", input);
+        let expected = (status, String::new(), format!("hamrisk: {words}\n"));
+        assert_eq!(self.run(line), expected, "{line}");
+        assert!(!self.names().contains(&"out".to_string()), "{line}: an output file is left");
+        self.put("out", b"before");
+        assert_eq!(self.run(line), expected, "{line}");
+        assert_eq!(self.get("out"), b"before", "{line}");
+        fs::remove_file(self.0.join("out")).unwrap();
+        let rest = self.names();
+        assert!(rest.iter().all(|name| !name.ends_with(".part")), "{line}: {rest:?}");
+    }
+}
+
+impl Drop for Folder {
+    fn drop(&mut self) {
+        fs::remove_dir_all(&self.0).unwrap();
+    }
+}
+
+#[test]
+fn convert_and_forward() {
+    let folder = Folder::new("convert");
+    let raw = [0x01, 0x00, 0x02, 0x00, 0xFF, 0xFF];
+    let samples = folder.written(&raw, "convert in out --row-bytes 6 --channels 1 --width 2 --predict --to be");
+    assert_eq!(samples, [0x00, 0x01, 0x00, 0x03, 0x00, 0x02]);
+    let back = folder.written(&samples, "forward --predict --from=be --width=2 --channels=1 --row-bytes=6 in out");
+    assert_eq!(back, raw);
+    let plain = folder.written(&raw, "convert in out --row-bytes 6 --channels 3 --width 2 --no-predict");
+    assert_eq!(plain, raw);
+    let in_place = "convert in in --row-bytes 2 --channels 1 --width 1 --predict";
+    folder.put("in", &[5, 251, 7, 1]);
+    assert_eq!(folder.run(in_place).0, 0);
+    assert_eq!(folder.get("in"), [5, 0, 7, 8]);
+    assert_eq!(folder.names(), ["in"]);
+}
+
+#[test]
+fn marks() {
+    let folder = Folder::new("marks");
+    let mut map = [0; 16];
+    map[3] = 1;
+    folder.put("in", &map);
+    let line = "marks in out --row-bytes 8 --channels 1 --width 2 --predict";
+    assert_eq!(folder.run(line), (0, "3 of 8 samples marked\n".into(), String::new()));
+    assert_eq!(folder.get("out"), [0, 1, 1, 1, 0, 0, 0, 0]);
+    let picture = folder.written(&map, &format!("{line} --pgm"));
+    assert_eq!(picture, b"P5\n4 2\n255\n\x00\xFF\xFF\xFF\x00\x00\x00\x00");
+}
+
+/// Above 64 MiB the work is cut into pieces: what comes out is that of one call.
+#[test]
+fn large_files() {
+    let folder = Folder::new("large");
+    let strip = Strip { row_bytes: 3_000, channels: 3, width: 2 };
+    let mut raw: Vec<u8> = (0..70_000 / 3 * 3_000u32).map(|n| (n.wrapping_mul(n) >> 9) as u8).collect();
+    let options = "--row-bytes 3000 --channels 3 --width 2 --predict";
+    let samples = folder.written(&raw, &format!("convert in out {options}"));
+    let predict = Coding { predict: true, ..Coding::default() };
+    assert!(samples == hamrisk::converted(&raw, strip, predict).unwrap());
+    assert!(folder.written(&samples, &format!("forward in out {options}")) == raw);
+    let damage: Vec<u8> = raw.iter().map(|&byte| u8::from(byte == 77)).collect();
+    let (marks, count) = hamrisk::marked(&damage, strip, true).unwrap();
+    folder.put("in", &damage);
+    let said = format!("{count} of {} samples marked\n", marks.len());
+    assert_eq!(folder.run(&format!("marks in out {options}")), (0, said, String::new()));
+    assert!(folder.get("out") == marks);
+    let mut swapped = vec![0; raw.len()];
+    hamrisk::swap_components(&raw, 5, &mut swapped).unwrap();
+    assert!(folder.written(&raw, "swap in out --width 5") == swapped);
+    let reversed = folder.written(&raw, "reverse in out");
+    hamrisk::reverse_bits(&mut raw);
+    assert!(reversed == raw);
+    raw.pop();
+    let refused = format!("convert refused: 2 Invalid: length {} is no multiple of row bytes 3000", raw.len());
+    folder.refused(&raw, &format!("convert in out {options}"), 2, &refused);
+}
+
+#[test]
+fn swap_and_reverse() {
+    let folder = Folder::new("swap");
+    assert_eq!(folder.written(&[1, 2, 3, 4, 5, 6], "swap in out --width 3"), [3, 2, 1, 6, 5, 4]);
+    assert_eq!(folder.written(&[1, 80], "reverse in out"), [128, 10]);
+    assert_eq!(folder.written(&[], "reverse in out"), []);
+}
+
+#[test]
+fn render_and_planes() {
+    let folder = Folder::new("render");
+    let apart = "--w 2 --h 1 --ch 3 --separate";
+    let picture = folder.written(&[1, 2, 3, 4, 5, 6], &format!("render in out {apart}"));
+    assert_eq!(picture, [1, 3, 5, 2, 4, 6]);
+    assert_eq!(folder.written(&picture, &format!("planes in out {apart}")), [1, 2, 3, 4, 5, 6]);
+    let colours = folder.written(&[1, 2, 3, 4, 5, 6], &format!("render in out {apart} --pnm"));
+    assert_eq!(colours, b"P6\n2 1\n255\n\x01\x03\x05\x02\x04\x06");
+    let depth = folder.written(&[0x34, 0x12], "render in out --w 1 --h 1 --bytes 2 --le --pnm");
+    assert_eq!(depth, b"P5\n1 1\n65535\n\x12\x34");
+    let no_alpha = folder.written(&[9, 255, 8, 255], "render in out --w 2 --h 1 --ch 2 --alpha 1 --pnm");
+    assert_eq!(no_alpha, b"P5\n2 1\n255\n\x09\x08");
+    let no_fourth = folder.written(&[1, 2, 3, 4], "render in out --w 1 --h 1 --ch 4 --alpha 2 --pnm");
+    assert_eq!(no_fourth, b"P6\n1 1\n255\n\x01\x02\x03");
+    let white = folder.written(&[0x80, 0x80], "render in out --w 9 --h 1 --slots 8 --white");
+    assert_eq!(white, [0, 255, 255, 255, 255, 255, 255, 255, 0]);
+}
+
+#[test]
+fn render_with_a_palette() {
+    let folder = Folder::new("palette");
+    folder.put("colours", &[9, 10, 0, 20, 0, 30, 0, 40, 0, 50, 0, 60, 0]);
+    let line = "render in out --w 2 --h 1 --ch 3 --slots 8 --palette --file colours --map 1";
+    assert_eq!(folder.written(&[0x40], line), [10, 30, 50, 20, 40, 60]);
+    folder.refused(
+        &[0x40],
+        &line.replace("--map 1", "--map 2"),
+        3,
+        "render refused: 3 Truncated: the palette of 2 colours at map 2 ends at byte 14, and its file has 13 bytes",
+    );
+}
+
+#[test]
+fn refusals_name_the_number() {
+    let folder = Folder::new("refusals");
+    let raw = [0; 12];
+    for (line, status, words) in [
+        ("convert in out --row-bytes 7 --channels 3 --width 3 --predict", 1, "width 3 is none of 1, 2, 4 and 8"),
+        ("forward in out --row-bytes 7 --channels 65 --width 2 --predict", 1, "channels 65 is not 1 to 64"),
+        ("marks in out --row-bytes 0 --channels 3 --width 2 --no-predict", 1, "row bytes 0 is not served"),
+        (
+            "convert in out --row-bytes 7 --channels 3 --width 2 --predict",
+            2,
+            "row bytes 7 is no multiple of channels 3 × width 2 (6)",
+        ),
+        ("marks in out --row-bytes 8 --channels 2 --width 2 --predict", 2, "length 12 is no multiple of row bytes 8"),
+        ("swap in out --width 9", 1, "width 9 is not 1 to 8"),
+        ("swap in out --width 0", 1, "width 0 is not 1 to 8"),
+        ("swap in out --width 5", 2, "length 12 is no multiple of width 5"),
+        ("render in out --w 2 --h 2 --bytes 4", 1, "bytes 4 is none of 1, 2 and 8"),
+        ("render in out --w 2 --h 2 --ch 3 --bytes 8", 1, "bytes 8 is not rendered"),
+        ("render in out --w 2 --h 0", 2, "h 0 leaves no picture"),
+        ("render in out --w 2 --h 2 --alpha 2 --ch 3", 2, "alpha 2 needs ch 2 or 4, not 3"),
+        ("render in out --w 13 --h 1", 3, "the planes have 12 bytes and need 13"),
+        ("render in out --w 16385 --h 1", 5, "w 16385 is above 16384"),
+        (
+            "planes in out --w 16384 --h 16384 --ch 4 --bytes 2",
+            5,
+            "w 16384 × h 16384 × ch 4 × bytes 2 is 2147483648, above 1073741824",
+        ),
+        ("planes in out --w 2 --h 2 --ch 2 --alpha 1", 1, "alpha 1 is not written"),
+        ("planes in out --w 13 --h 1", 3, "the picture has 12 bytes and needs 13"),
+    ] {
+        let call = line.split(' ').next().unwrap();
+        let kind = ["", "Unsupported", "Invalid", "Truncated", "OutputTooSmall", "Limit"][status as usize];
+        folder.refused(&raw, line, status, &format!("{call} refused: {status} {kind}: {words}"));
+    }
+    let mut late = [255; 12];
+    late[10] = 7;
+    let words = "planes refused: 2 Invalid: byte 10 of the picture, row 2 and column 2, is 7, neither 0 nor 255";
+    folder.refused(&late, "planes in out --w 4 --h 3 --slots 8", 2, words);
+}
+
+#[test]
+fn wrong_command_lines_end_with_64() {
+    let folder = Folder::new("usage");
+    folder.put("in", &[0; 12]);
+    for line in [
+        "",
+        "straighten in out",
+        "reverse in",
+        "reverse in out more",
+        "reverse in out --width 2",
+        "reverse in out -v",
+        "swap in out",
+        "swap in out --width",
+        "swap in out --width two",
+        "swap in out --width -2",
+        "swap in out --width 2 --width 2",
+        "swap in out --width 99999999999999999999",
+        "convert in out --row-bytes 6 --channels 1 --width 2",
+        "convert in out --row-bytes 6 --channels 1 --width 2 --predict --no-predict",
+        "convert in out --row-bytes 6 --channels 1 --width 2 --predict=yes",
+        "convert in out --row-bytes 6 --channels 1 --width 2 --predict --from big",
+        "convert in out --row-bytes 6 --channels 1 --predict",
+        "render in out --w 2",
+        "render in out --w 2 --h 1 --ch 3 --palette",
+        "render in out --w 2 --h 1 --file in",
+        "demo out",
+    ] {
+        let (status, output, error) = folder.run(line);
+        assert_eq!((status, output.as_str()), (64, ""), "{line}: {error}");
+        assert!(error.starts_with("hamrisk: ") && error.contains("--help"), "{line}: {error}");
+        assert_eq!(folder.names(), ["in"], "{line}");
+    }
+}
+
+#[test]
+fn files_that_cannot_be_read_or_written_end_with_74() {
+    let folder = Folder::new("files");
+    folder.put("in", &[1]);
+    for (line, named) in [("reverse none out", "none"), ("reverse in none/out", "none/out"), ("reverse in .", ".")] {
+        let (status, _, error) = folder.run(line);
+        assert_eq!(status, 74, "{line}: {error}");
+        assert!(error.starts_with(&format!("hamrisk: {named}: ")), "{line}: {error}");
+        assert_eq!(folder.names(), ["in"], "{line}");
+    }
+}
+
+#[test]
+fn names_that_are_no_text_and_names_after_two_dashes() {
+    let folder = Folder::new("names");
+    let odd = OsStr::from_bytes(b"\xFF\xFE");
+    fs::write(folder.0.join(odd), [1, 80]).unwrap();
+    let words = ["reverse".as_ref(), odd, "--".as_ref(), "--out".as_ref()];
+    let mut command = Command::new(env!("CARGO_BIN_EXE_hamrisk"));
+    assert!(command.args(words).current_dir(&folder.0).status().unwrap().success());
+    assert_eq!(folder.get("--out"), [128, 10]);
+}
+
+#[test]
+fn help_of_each() {
+    let folder = Folder::new("help");
+    let (status, overview, _) = folder.run("--help");
+    assert_eq!(status, 0);
+    for name in ["convert", "forward", "marks", "swap", "reverse", "render", "planes", "demo"] {
+        assert!(overview.contains(&format!("\n  {name} ")), "{name}");
+        let (status, text, error) = folder.run(&format!("{name} --help"));
+        assert_eq!((status, error.as_str()), (0, ""));
+        assert!(text.starts_with(&format!("hamrisk {name}")), "{text}");
+        assert!(text.contains("Exit status"), "{text}");
+    }
+}
+
+#[test]
+fn demo_marks_all_that_came_out_wrong() {
+    let folder = Folder::new("demo");
+    let (status, text, error) = folder.run("demo --to pictures");
+    assert_eq!((status, error.as_str()), (0, ""));
+    assert!(text.contains("111 bare places came out full"), "{text}");
+    assert!(text.contains("192 samples are marked; 0 came out wrong without a mark"), "{text}");
+    for name in ["shelf.pgm", "plain.pgm", "marks.pgm"] {
+        let picture = folder.get(&format!("pictures/{name}"));
+        assert!(picture.starts_with(b"P5\n576 192\n255\n"));
+        assert_eq!(picture.len(), 15 + 576 * 192);
+    }
+    assert_eq!(folder.run("demo --to pictures"), (0, text, String::new()));
+}

@@ -1,0 +1,15 @@
+//! Every call beside an independent plain Rust reading of document 01, on random and edge inputs, with canaries around
+//! every buffer.
+
+mod lent;
+mod numbers;
+mod pictures;
+mod plain;
+mod random;
+mod strips;
+mod words;
+
+/// The library's answer in the plain reading's terms: a refusal is its number.
+fn told<T>(answer: Result<T, hamrisk::Refusal>) -> Result<T, u32> {
+    answer.map_err(hamrisk::Refusal::number)
+}
