@@ -254,7 +254,7 @@ fn kinds() -> Vec<(&'static str, Layout)> {
 /// About n bytes of picture, 1024 columns where the rows do not pass the limit of 16,384.
 fn sized(l: Layout, n: usize) -> Layout {
     let pixels = n / (l.ch * l.bytes);
-    let w = (pixels / 16384).max(1024);
+    let w = (pixels / 16384 + 1).max(1024);
     Layout { w, h: pixels / w, ..l }
 }
 
@@ -296,6 +296,7 @@ fn least(run: &Run) {
         ("convert, nothing", seconds(|| hamrisk::convert(black_box(&[]), strip, Coding::default(), &mut out).unwrap())),
         ("swap_components, nothing", seconds(|| hamrisk::swap_components(black_box(&[]), 2, &mut out).unwrap())),
         ("marks, nothing", seconds(|| assert!(hamrisk::marks(black_box(&[]), strip, true, &mut out).is_ok()))),
+        ("check_layout, one byte", seconds(|| assert!(hamrisk::check_layout(black_box(&grey)).is_ok()))),
         ("render, one byte", seconds(|| hamrisk::render(black_box(&grey), &[], &[7], &mut out).unwrap())),
         ("write_planes, one byte", seconds(|| hamrisk::write_planes(black_box(&grey), &[7], &mut out).unwrap())),
     ] {
