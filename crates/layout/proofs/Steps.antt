@@ -1,10 +1,9 @@
--- One list of faults after another: the first refusal of two answers is that of both lists together; and what is shown by both. Assumes nothing.
+-- One list of faults after another: the first refusal of two answers is that of both lists together. Assumes nothing.
 use mathlib.Core.Path.{_≡_, refl}
 use mathlib.Core.Bool.{Bool, true, false}
 use mathlib.Core.List.{List, [], _∷_, _++_}
 use Rattle.answer.specs.Outcome.{Fault, unless, refused, pick, doneOutcome}
 use Rattle.answer.specs.declared.Done.{Done}
-use Rattle.answer.specs.declared.Done.the-variants as Done-is
 use Rattle.layout.specs.Layout.{firstOf, StepPassed}
 
 unless-append : (fs gs : List Fault) → firstOf (unless fs tt) (unless gs tt) ≡ unless (fs ++ gs) tt

@@ -13,7 +13,7 @@ use Rattle.answer.specs.Outcome.{pick}
 use lib.ListN.{length, getD}
 use Rattle.answer.specs.Table.{filled}
 use Rattle.answer.proofs.Filling.{length-stores, stores-same, stores-filled, filled-front, filled-already}
-use Rattle.words.specs.Word.{wordAt, backwards, modulus, plus, minus}
+use Rattle.words.specs.Word.{wordAt, Put, backwards, modulus, plus, minus}
 use Rattle.words.proofs.Words.{digits-word, backwards-digit}
 use Rattle.swaps.proofs.Mirror.{group-room}
 use Rattle.strips.specs.Sample.{Strip, alone, wordOf, sample, difference, storedAt}
@@ -21,7 +21,7 @@ use Rattle.strips.proofs.Sums.{sample-alone, sample-later, difference-later}
 use Rattle.strips.proofs.Stored.{stored-byte}
 use Rattle.strips.proofs.Strips.{groups-words}
 use Rattle.strips.proofs.Undo.{sample-below}
-use Rattle.rows.specs.Row.{oneRow, RowFits, Led, Put}
+use Rattle.rows.specs.Row.{oneRow, RowFits, Led}
 
 -- a word stored backwards is stored in the other byte order
 pub put-backwards : (old : List ℕ) (at width v : ℕ) (new : List ℕ) → Put old at width true (backwards width v) new → Put old at width false v new

@@ -6,10 +6,8 @@ use mathlib.Core.Bool.{Bool, true}
 use mathlib.Core.List.{List}
 use lib.ListN.{length, take}
 use Rattle.answer.specs.Outcome.{unless, pick, Promise, doneOutcome}
-use Rattle.answer.specs.Table.{table, filled, stores}
+use Rattle.answer.specs.Table.{table, filled}
 use Rattle.answer.specs.declared.Done.{Done}
-use Rattle.words.specs.Digits.{digit}
-use Rattle.words.specs.Word.{turn}
 use Rattle.strips.specs.Sample.{wordOf, Strip, strip, sample, difference, storedAt}
 use Rattle.words.specs.Promises.{served}
 use Rattle.strips.specs.Promises.{convertFaults}
@@ -44,9 +42,6 @@ undoneAt raw channels width le out-le = storedAt width out-le (sample (oneRow ra
 
 abbrev pub predictedAt : List ℕ → ℕ → ℕ → Bool → Bool → ℕ → ℕ
 predictedAt raw channels width le out-le = storedAt width out-le (difference (oneRow raw channels width) true le raw)
-
-abbrev pub Put : List ℕ → ℕ → ℕ → Bool → ℕ → List ℕ → Type 0
-Put old at width le v new = new ≡ stores old at width (λ p. digit 256 (turn le width p) v)
 
 abbrev pub UndoneInto : List ℕ → ℕ → ℕ → Bool → Bool → List ℕ → List ℕ → Type 0
 UndoneInto raw channels width le out-le old new = new ≡ filled (length raw) (undoneAt raw channels width le out-le) old

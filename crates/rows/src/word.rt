@@ -4,8 +4,7 @@ ghost use mathlib.Core.Path.{_≡_};
 ghost use mathlib.Core.Bool.{true};
 ghost use Prim.Native.Nat.{_+_, _≤_};
 ghost use lib.ListN.{length};
-ghost use Rattle.words.specs.Word.{wordAt, plus, minus};
-ghost use Rattle.rows.specs.Row.{Put};
+ghost use Rattle.words.specs.Word.{wordAt, Put, plus, minus};
 
 pub(crate) fn get1(s: &[u8], at: usize, le: bool) -> u8
     requires { ⌜ at + 1 ≤ length (now s) ⌝ }

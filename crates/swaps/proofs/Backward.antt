@@ -7,12 +7,12 @@ use native.Mathlib.Omega.{arith}
 use lib.ListN.{getD}
 use Rattle.answer.specs.Table.{stores}
 use Rattle.answer.proofs.Filling.{stores-same, stores-on}
-use Rattle.words.specs.Word.{turn, Bytes, wordAt, backwards}
+use Rattle.words.specs.Word.{turn, Bytes, wordAt, Put, backwards}
 use Rattle.words.proofs.Words.{turn-below, word-digit, backwards-digit}
-use Rattle.swaps.specs.Swapped.{Backwards, Stored}
+use Rattle.swaps.specs.Swapped.{Backwards}
 
 -- a word's bytes, stored from the word backwards
-pub as-word : (raw : List ℕ) (from width : ℕ) (old : List ℕ) (at v : ℕ) (new : List ℕ) → Bytes raw → v ≡ backwards width (wordAt raw from width true) → Stored old at width v new → Backwards raw from width old at new
+pub as-word : (raw : List ℕ) (from width : ℕ) (old : List ℕ) (at v : ℕ) (new : List ℕ) → Bytes raw → v ≡ backwards width (wordAt raw from width true) → Put old at width true v new → Backwards raw from width old at new
 as-word raw from width old at v new b e put =
     put
     ∙ stores-same old at width _ _ (λ p h. rw e (backwards-digit width (wordAt raw from width true) p h ∙ word-digit raw from width true b (turn false width p) (turn-below false width p h)))

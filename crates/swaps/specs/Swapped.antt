@@ -9,7 +9,6 @@ use lib.Dec.{eqb, ltb}
 use Rattle.answer.specs.Outcome.{Fault, unless, unsupported, invalid, outputTooSmall, Promise, doneOutcome}
 use Rattle.answer.specs.Table.{table, filled, stores}
 use Rattle.answer.specs.declared.Done.{Done}
-use Rattle.words.specs.Digits.{digit}
 
 -- the place that mirrors k in its group of `width` bytes
 abbrev pub mirror : ℕ → ℕ → ℕ
@@ -41,13 +40,10 @@ pub record SwapFits (raw : List ℕ) (width : ℕ) (out : List ℕ) : Type 0 whe
 abbrev pub SwappedInto : List ℕ → ℕ → List ℕ → List ℕ → Type 0
 SwappedInto raw width old new = new ≡ filled (length raw) (swappedAt raw width) old
 
--- some bytes stored backwards: where they are and where they go; and a word's digits stored
+-- some bytes stored backwards: where they are and where they go
 pub record Room (raw : List ℕ) (from n : ℕ) (out : List ℕ) (at : ℕ) : Type 0 where
   pub there : from + n ≤ length raw
   pub here : at + n ≤ length out
 
 abbrev pub Backwards : List ℕ → ℕ → ℕ → List ℕ → ℕ → List ℕ → Type 0
 Backwards raw from n old at new = new ≡ stores old at n (λ p. getD raw (from + (n - 1 - p)) 0)
-
-abbrev pub Stored : List ℕ → ℕ → ℕ → ℕ → List ℕ → Type 0
-Stored old at n v new = new ≡ stores old at n (λ p. digit 256 p v)

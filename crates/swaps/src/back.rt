@@ -1,12 +1,14 @@
 // Some bytes of `raw`, stored backwards. Up to eight at once go as a word: read in a straight line, turned as a number, and stored in a
 // function of its own, of which the compiler makes one load, one swap and one store, and in a loop many at once.
+ghost use mathlib.Core.Bool.{true};
 ghost use Prim.Native.Nat.{_+_, _≤_};
 ghost use lib.ListN.{length};
-ghost use Rattle.swaps.specs.Swapped.{Stored, Room, Backwards};
+ghost use Rattle.words.specs.Word.{Put};
+ghost use Rattle.swaps.specs.Swapped.{Room, Backwards};
 
 fn store2(out: &mut [u8], at: usize, v: u16)
     requires { ⌜ at + 2 ≤ length (now out) ⌝ }
-    ensures { λ r. ⌜ Stored (now (out .entry)) at 2 v (now (out .exit)) ⌝ }
+    ensures { λ r. ⌜ Put (now (out .entry)) at 2 true v (now (out .exit)) ⌝ }
 {
     out[at] = (v % 256) as u8;
     out[at + 1] = (v / 256 % 256) as u8;
@@ -14,7 +16,7 @@ fn store2(out: &mut [u8], at: usize, v: u16)
 
 fn store4(out: &mut [u8], at: usize, v: u32)
     requires { ⌜ at + 4 ≤ length (now out) ⌝ }
-    ensures { λ r. ⌜ Stored (now (out .entry)) at 4 v (now (out .exit)) ⌝ }
+    ensures { λ r. ⌜ Put (now (out .entry)) at 4 true v (now (out .exit)) ⌝ }
 {
     out[at] = (v % 256) as u8;
     out[at + 1] = (v / 256 % 256) as u8;
@@ -24,7 +26,7 @@ fn store4(out: &mut [u8], at: usize, v: u32)
 
 fn store8(out: &mut [u8], at: usize, v: u64)
     requires { ⌜ at + 8 ≤ length (now out) ⌝ }
-    ensures { λ r. ⌜ Stored (now (out .entry)) at 8 v (now (out .exit)) ⌝ }
+    ensures { λ r. ⌜ Put (now (out .entry)) at 8 true v (now (out .exit)) ⌝ }
 {
     out[at] = (v % 256) as u8;
     out[at + 1] = (v / 256 % 256) as u8;

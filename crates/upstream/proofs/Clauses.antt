@@ -13,7 +13,7 @@ use Rattle.answer.specs.Outcome.{done, refused, pick, Sound, next, none, here, 
 use Rattle.answer.specs.declared.Done.{Done}
 use Rattle.answer.proofs.Promised.{sound-here, sound-rest, sound-front, sound-more, sound-back}
 use Rattle.answer.proofs.Filling.{length-table, table-at, length-stores, stores-at, stores-rest}
-use Rattle.words.specs.Word.{Bytes, turn, wordAt}
+use Rattle.words.specs.Word.{Bytes, turn, wordAt, Put}
 use Rattle.words.specs.Promises.{served, wordOutcome, loadedOutcome, readFaults, ReadWord, loadWidth, loadFaults, LoadedWord}
 use Rattle.words.specs.declared.Word.{Word}
 use Rattle.words.specs.declared.Word.the-variants as Word-is
@@ -26,7 +26,6 @@ use Rattle.strips.specs.Sample.{Strip, storedAt}
 use Rattle.strips.specs.Sample as Strips
 use Rattle.strips.specs.Promises.{stripFaults, convertFaults, Converted}
 use Rattle.strips.proofs.Strips.{good-checked, width-fits}
-use Rattle.rows.specs.Row.{Put}
 use Rattle.layout.proofs.Says.{held}
 use Rattle.upstream.specs.Native.{digit, widthOk, RangeOk, modulus, word, converted, Valid, reversed, value}
 use Rattle.upstream.specs.Clause.{Ok, Exactly}

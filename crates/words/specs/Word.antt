@@ -1,9 +1,11 @@
 -- TIFF 6.0's words: the first byte is the least significant when `le`, the most significant otherwise. One definition for any width.
 -- And sums and differences of words, modulo 256^width. Assumes nothing.
 use Prim.Native.Nat.{ℕ, _+_, _-_, _%_, _^_, _<_}
+use mathlib.Core.Path.{_≡_}
 use mathlib.Core.Bool.{Bool, true, false}
 use mathlib.Core.List.{List}
 use lib.ListN.{getD}
+use Rattle.answer.specs.Table.{stores}
 use Rattle.words.specs.Digits.{digit, value}
 
 -- where, among a word's bytes, its digit p stands; and which digit byte p is
@@ -18,6 +20,10 @@ Bytes s = (i : ℕ) → getD s i 0 < 256
 -- the word of the `width` bytes at a place
 abbrev pub wordAt : List ℕ → ℕ → ℕ → Bool → ℕ
 wordAt s at width le = value 256 width (λ p. getD s (at + turn le width p) 0)
+
+-- a word's digits stored at a place, in a byte order
+abbrev pub Put : List ℕ → ℕ → ℕ → Bool → ℕ → List ℕ → Type 0
+Put old at width le v new = new ≡ stores old at width (λ p. digit 256 (turn le width p) v)
 
 -- the word whose bytes are those of v, backwards
 abbrev pub backwards : ℕ → ℕ → ℕ
