@@ -1,9 +1,9 @@
 -- The loops over a row, for every width: their invariants, how a turn keeps each, and what it comes to at the end. Assumes nothing.
 use mathlib.Core.Path.{_≡_, refl, sym, ap, _∙_}
 use mathlib.Core.Bool.{Bool, true, false}
-use mathlib.Core.List.{List}
-use Prim.Native.Nat.{ℕ, _+_, _-_, _*_, _/_, _%_, _≤_, _<_}
-use native.Mathlib.Nat.{mul-mod-left, add-zero, zero-mod, add-mod-right, add-mul-div-right, div-add-mod', mod-eq-of-lt, le-div-iff-mul-le, add-mul, one-mul, mul-sub, mul-comm, le-mul-of-pos-right}
+use mathlib.Core.List.{List, [], _∷_}
+use Prim.Native.Nat.{ℕ, zero, suc, _+_, _-_, _*_, _/_, _%_, _≤_, _<_}
+use native.Mathlib.Nat.{mul-mod-left, add-zero, zero-mod, add-mod-right, add-mul-div-right, mul-div-cancel, div-add-mod', mod-eq-of-lt, mod-add-mod, add-mod-mod, le-div-iff-mul-le, add-mul, one-mul, mul-sub, mul-comm, le-mul-of-pos-right}
 use native.Mathlib.Numerals.{add-one}
 use native.Mathlib.Omega.{arith}
 use borrow.Author.Tests.{lt-ltb, le-ltb}
@@ -12,20 +12,30 @@ use native.Mathlib.Decide.{decLt}
 use Rattle.answer.specs.Outcome.{pick}
 use lib.ListN.{length, getD}
 use Rattle.answer.specs.Table.{filled}
-use Rattle.answer.proofs.Filling.{length-stores, stores-same, stores-filled, filled-front, filled-already}
-use Rattle.words.specs.Word.{wordAt, Put, backwards, modulus, plus, minus}
-use Rattle.words.proofs.Words.{digits-word, backwards-digit}
+use Rattle.answer.proofs.Filling.{length-stores, stores-same, stores-filled, filled-front, filled-already, filled-same}
+use Rattle.words.specs.Digits.{digit}
+use Rattle.words.specs.Word.{turn, wordAt, Put, backwards, modulus, plus, minus}
+use Rattle.words.proofs.Digits.{digit-below, digit-value, value-digit}
+use Rattle.words.proofs.Words.{turn-below, digits-word, backwards-digit}
 use Rattle.swaps.proofs.Mirror.{group-room}
 use Rattle.strips.specs.Sample.{Strip, alone, wordOf, sample, difference, storedAt}
 use Rattle.strips.proofs.Sums.{sample-alone, sample-later, difference-later}
 use Rattle.strips.proofs.Stored.{stored-byte}
 use Rattle.strips.proofs.Strips.{groups-words}
 use Rattle.strips.proofs.Undo.{sample-below}
-use Rattle.rows.specs.Row.{oneRow, RowFits, Led}
+use Rattle.rows.specs.Row.{oneRow, RowFits, Led, undoneAt, resumed}
 
 -- a word stored backwards is stored in the other byte order
 pub put-backwards : (old : List ℕ) (at width v : ℕ) (new : List ℕ) → Put old at width true (backwards width v) new → Put old at width false v new
 put-backwards old at width v new e = e ∙ stores-same old at width _ _ (backwards-digit width v)
+
+-- a number and its rest modulo 256^width are stored alike
+pub put-rest : (old : List ℕ) (at width : ℕ) (le : Bool) (v : ℕ) (new : List ℕ) → Put old at width le (v % modulus width) new → Put old at width le v new
+put-rest old at width le v new e =
+    e
+    ∙ stores-same old at width _ _ (λ p h.
+    ap (digit 256 (turn le width p)) (sym (value-digit 256 width v (omega arith)))
+    ∙ digit-value 256 width (λ q. digit 256 q v) (λ q l. digit-below 256 q v (omega arith)) (turn le width p) (turn-below le width p h))
 
 -- the buffer holds the words v, stored, up to `at`
 pub record Upto (v : ℕ → ℕ) (width : ℕ) (out-le : Bool) (raw old : List ℕ) (at : ℕ) (out : List ℕ) : Type 0 where
@@ -62,60 +72,85 @@ module _ {v : ℕ → ℕ} {width : ℕ} {out-le : Bool} {raw old : List ℕ} {a
   ended l = let all : at ≡ length raw = omega (arith, is .inside) in rw all at (is .so-far)
 
 -- a row's sample is alone exactly if it is one of the first `channels`
-later : (raw : List ℕ) (channels width n : ℕ) → n < length raw / width → channels ≤ n → alone (oneRow raw channels width) true n ≡ false
+pub later : (raw : List ℕ) (channels width n : ℕ) → n < length raw / width → channels ≤ n → alone (oneRow raw channels width) true n ≡ false
 later raw channels width n h d = rw (mod-eq-of-lt h) (le-ltb n channels d)
 
--- the sum that is carried into word n: the sample `channels` before it, if its row has one
-pub carried : List ℕ → ℕ → ℕ → Bool → ℕ → ℕ
-carried raw channels width le n = pick (ltb n channels) 0 (sample (oneRow raw channels width) true le raw (n - channels))
+-- the sum that is carried into word n of a row that is taken up: the sample `channels` before it, or what the row starts from
+pub carried : List ℕ → ℕ → ℕ → Bool → List ℕ → ℕ → ℕ
+carried raw channels width le start n = pick (ltb n channels) (getD start n 0) (resumed raw channels width le start (n - channels))
 
-pub carried-none : (raw : List ℕ) (channels width : ℕ) (le : Bool) (n : ℕ) → n < channels → carried raw channels width le n ≡ 0
+pub carried-first : (raw : List ℕ) (channels width : ℕ) (le : Bool) (start : List ℕ) (n : ℕ) → n < channels → carried raw channels width le start n ≡ getD start n 0
 unfolding carried
-carried-none raw channels width le n h = rw (lt-ltb n channels h)
+carried-first raw channels width le start n h = rw (lt-ltb n channels h)
 
-carried-later : (raw : List ℕ) (channels width : ℕ) (le : Bool) (n : ℕ) → carried raw channels width le (n + channels) ≡ sample (oneRow raw channels width) true le raw n
+-- the first pixel's sums are what the row starts from
+pub carried-start : (raw : List ℕ) (channels width : ℕ) (le : Bool) (start : List ℕ) (j k : ℕ) → 0 < width → j < channels → k ≡ j * width → getD start j 0 ≡ carried raw channels width le start (k / width)
+carried-start raw channels width le start j k some h e = rw (e, mul-div-cancel j some) (sym (carried-first raw channels width le start j h))
+
+pub carried-later : (raw : List ℕ) (channels width : ℕ) (le : Bool) (start : List ℕ) (n : ℕ) → carried raw channels width le start (n + channels) ≡ resumed raw channels width le start n
 unfolding carried
-carried-later raw channels width le n =
+carried-later raw channels width le start n =
     let back : n + channels - channels ≡ n = omega arith in rw (le-ltb (n + channels) channels (omega arith), back)
 
-carried-on : (raw : List ℕ) (channels width : ℕ) (le : Bool) (n : ℕ) → 0 < channels → n < length raw / width → sample (oneRow raw channels width) true le raw n ≡ plus width (wordOf width le raw n) (carried raw channels width le n)
+pub carried-on : (raw : List ℕ) (channels width : ℕ) (le : Bool) (start : List ℕ) (n : ℕ) → 0 < channels → n < length raw / width → resumed raw channels width le start n ≡ plus width (wordOf width le raw n) (carried raw channels width le start n)
 unfolding carried
-carried-on raw channels width le n some h = by (decLt n channels)
+carried-on raw channels width le start n some h = by (decLt n channels)
   where
     g : Strip
     g = oneRow raw channels width
 
-    by : Dec (n < channels) → sample g true le raw n ≡ plus width (wordOf width le raw n) (pick (ltb n channels) 0 (sample g true le raw (n - channels)))
+    by : Dec (n < channels) → resumed raw channels width le start n ≡ plus width (wordOf width le raw n) (pick (ltb n channels) (getD start n 0) (resumed raw channels width le start (n - channels)))
     by (yes l) =
-        sample-alone g true le raw n (rw (mod-eq-of-lt h) (lt-ltb n channels l)) ∙ rw (lt-ltb n channels l, add-zero)
+        rw (lt-ltb n channels l, mod-eq-of-lt l, sample-alone g true le raw n (rw (mod-eq-of-lt h) (lt-ltb n channels l)))
+        (mod-add-mod (wordOf width le raw n) (modulus width) (getD start n 0))
     by (no m) =
         let deep : channels ≤ n = omega arith in
-        sample-later g true le raw n some (later raw channels width n h deep) ∙ rw (le-ltb n channels deep)
+        let before : n - channels + channels ≡ n = omega arith in
+        let same : n % channels ≡ (n - channels) % channels = rw before at (add-mod-right (n - channels) channels) in
+        let s = sample g true le raw (n - channels) in
+        let t = getD start ((n - channels) % channels) 0 in
+        let w = wordOf width le raw n in
+        let together : w + s + t ≡ w + (s + t) = omega arith in
+        rw (le-ltb n channels deep, same, sample-later g true le raw n some (later raw channels width n h deep))
+        (mod-add-mod (w + s) (modulus width) t ∙ ap (λ (x : ℕ). x % modulus width) together ∙ sym (add-mod-mod w (s + t) (modulus width)))
 
--- a row whose channels' sums are carried along
-module _ (le : Bool) {raw : List ℕ} {channels width : ℕ} {out-le : Bool} {old : List ℕ} {at : ℕ} {out : List ℕ} (fits : RowFits raw channels width old) (is : Upto (sample (oneRow raw channels width) true le raw) width out-le raw old at out) where
-  whole-words : length raw % width ≡ 0
-  whole-words = groups-words (length raw) channels width (fits .groups)
+-- n times 0
+abbrev pub nothing : ℕ → List ℕ
+nothing zero = []
+nothing (suc n) = 0 ∷ nothing n
 
+zeros : (n j : ℕ) → getD (nothing n) j 0 ≡ 0
+zeros zero j = refl
+zeros (suc n) zero = refl
+zeros (suc n) (suc j) = zeros n j
+
+-- a row that starts from nothing is the row
+pub resumed-none : (raw : List ℕ) (channels width : ℕ) (le out-le : Bool) (old : List ℕ) → 0 < channels → filled (length raw) (storedAt width out-le (resumed raw channels width le (nothing channels))) old ≡ filled (length raw) (undoneAt raw channels width le out-le) old
+resumed-none raw channels width le out-le old some =
+    filled-same (length raw) _ _ old (λ k h.
+    ap (digit 256 (turn out-le width (k % width)))
+    (rw (zeros channels (k / width % channels), add-zero) (mod-eq-of-lt (sample-below (oneRow raw channels width) true le raw some (k / width)))))
+
+-- a row whose channels' sums are carried along, from any start
+module _ (le : Bool) (start : List ℕ) {raw : List ℕ} {channels width : ℕ} {out-le : Bool} {old : List ℕ} {at : ℕ} {out : List ℕ} (fits : RowFits raw channels width old) (is : Upto (resumed raw channels width le start) width out-le raw old at out) where
   pub sum-room : at < length raw → at + width ≤ length raw
-  sum-room more = turn-room is whole-words more
+  sum-room more = turn-room is (groups-words (length raw) channels width (fits .groups)) more
 
-  module _ (more : at < length raw) {sum : ℕ} (carry : sum ≡ carried raw channels width le (at / width)) (x : ℕ) (e : x ≡ plus width (wordAt raw at width le) sum) where
-    -- the sum after a turn is the sample
-    summed-on : x ≡ sample (oneRow raw channels width) true le raw (at / width)
+  -- a turn: the word and the sum so far are the sample, which is stored, and carried into the next pixel
+  module _ (more : at < length raw) {sum : ℕ} (carry : sum ≡ carried raw channels width le start (at / width)) {x : ℕ} (e : x ≡ plus width (wordAt raw at width le) sum) where
+    summed-on : x ≡ resumed raw channels width le start (at / width)
     summed-on =
         let here : wordOf width le raw (at / width) ≡ wordAt raw at width le = ap (λ (k : ℕ). wordAt raw k width le) (back-at is) in
-        e ∙ rw (carry, ← here) (sym (carried-on raw channels width le (at / width) (fits .channel) (in-words is whole-words more (fits .wide))))
+        e ∙ rw (carry, ← here) (sym (carried-on raw channels width le start (at / width) (fits .channel) (in-words is (groups-words (length raw) channels width (fits .groups)) more (fits .wide))))
 
-    pub sum-turned : (new : List ℕ) → Put out at width out-le x new → Upto (sample (oneRow raw channels width) true le raw) width out-le raw old (at + width) new
-    sum-turned new put = turned is whole-words more (fits .room) x new summed-on put
+    pub sum-turned : {new : List ℕ} → Put out at width out-le x new → Upto (resumed raw channels width le start) width out-le raw old (at + width) new
+    sum-turned {new} put = turned is (groups-words (length raw) channels width (fits .groups)) more (fits .room) x new summed-on put
 
-    -- and is carried into the next pixel
-    pub sum-carried : (next : ℕ) → next ≡ at + channels * width → x ≡ carried raw channels width le (next / width)
+    pub sum-carried : (next : ℕ) → next ≡ at + channels * width → x ≡ carried raw channels width le start (next / width)
     sum-carried next there =
         summed-on
-        ∙ sym (carried-later raw channels width le (at / width))
-        ∙ ap (carried raw channels width le) (sym (ap (λ (k : ℕ). k / width) there ∙ add-mul-div-right at channels (fits .wide)))
+        ∙ sym (carried-later raw channels width le start (at / width))
+        ∙ ap (carried raw channels width le start) (sym (ap (λ (k : ℕ). k / width) there ∙ add-mul-div-right at channels (fits .wide)))
 
 -- several channels: word n, with the sample or the word `channels` before it, step bytes back
 module _ {raw : List ℕ} {channels width : ℕ} {out-le : Bool} {old : List ℕ} {at : ℕ} {out : List ℕ} {v : ℕ → ℕ} (fits : RowFits raw channels width old) (is : Upto v width out-le raw old at out) (past : channels * width ≤ at) where

@@ -4,11 +4,12 @@ use Prim.Native.Nat.{ℕ, _*_, _%_, _≤_, _<_}
 use mathlib.Core.Path.{_≡_}
 use mathlib.Core.Bool.{Bool, true}
 use mathlib.Core.List.{List}
-use lib.ListN.{length, take}
+use lib.ListN.{length, take, getD}
 use Rattle.answer.specs.Outcome.{unless, pick, Promise, doneOutcome}
 use Rattle.answer.specs.Table.{table, filled}
 use Rattle.answer.specs.declared.Done.{Done}
 use Rattle.strips.specs.Sample.{wordOf, Strip, strip, sample, difference, storedAt}
+use Rattle.words.specs.Word.{plus}
 use Rattle.words.specs.Promises.{served}
 use Rattle.strips.specs.Promises.{convertFaults}
 
@@ -45,6 +46,13 @@ predictedAt raw channels width le out-le = storedAt width out-le (difference (on
 
 abbrev pub UndoneInto : List ℕ → ℕ → ℕ → Bool → Bool → List ℕ → List ℕ → Type 0
 UndoneInto raw channels width le out-le old new = new ≡ filled (length raw) (undoneAt raw channels width le out-le) old
+
+-- sample n of a row that is taken up in its middle: that of the bytes from there on alone, and the sum so far of its channel
+abbrev pub resumed : List ℕ → ℕ → ℕ → Bool → List ℕ → ℕ → ℕ
+resumed raw channels width le start n = plus width (sample (oneRow raw channels width) true le raw n) (getD start (n % channels) 0)
+
+abbrev pub ResumedInto : List ℕ → ℕ → ℕ → Bool → Bool → List ℕ → List ℕ → List ℕ → Type 0
+ResumedInto raw channels width le out-le start old new = new ≡ filled (length raw) (storedAt width out-le (resumed raw channels width le start)) old
 
 abbrev pub PredictedInto : List ℕ → ℕ → ℕ → Bool → Bool → List ℕ → List ℕ → Type 0
 PredictedInto raw channels width le out-le old new = new ≡ filled (length raw) (predictedAt raw channels width le out-le) old

@@ -1,55 +1,76 @@
-// Forward prediction of a row past its first words, for each width. Width 1 is written as the others are.
+// Forward prediction of a row past its first words: each word less the one `channels` before it.
 use crate::word;
+ghost use mathlib.Core.Path.{_≡_};
+ghost use mathlib.Core.Bool.{true};
+ghost use Rattle.words.specs.Promises.{served};
 ghost use Rattle.rows.specs.Row.{Led, predictedAt, PredictedInto};
 
-pub(crate) fn difference1(raw: &[u8], channels: usize, le: bool, out_le: bool, out: &mut [u8])
-    requires { ⌜ Led (predictedAt (now raw) channels 1 le «out_le») (now raw) channels 1 (now out) ⌝ }
-    ensures { λ r. ⌜ PredictedInto (now (raw .entry)) channels 1 le «out_le» (now (out .entry)) (now (out .exit)) ⌝ }
+fn differences_of(raw: &[u8], channels: usize, width: usize, le: bool, out_le: bool, out: &mut [u8])
+    requires { ⌜ (served width ≡ true) × Led (predictedAt (now raw) channels width le «out_le») (now raw) channels width (now out) ⌝ }
+    ensures { λ r. ⌜ PredictedInto (now (raw .entry)) channels width le «out_le» (now (out .entry)) (now (out .exit)) ⌝ }
 {
-    let step = channels * 1;
+    let step = channels * width;
     let mut at = step;
     while at < raw.len() {
-        let less = word::sub1(word::get1(raw, at, le), word::get1(raw, at - step, le));
-        word::put1(out, at, out_le, less);
-        at += 1;
+        let less = word::sub(
+            word::get(raw, at, width, le),
+            word::get(raw, at - step, width, le),
+            width,
+        );
+        word::put(out, at, width, out_le, less);
+        at += width;
     }
 }
 
-pub(crate) fn difference2(raw: &[u8], channels: usize, le: bool, out_le: bool, out: &mut [u8])
-    requires { ⌜ Led (predictedAt (now raw) channels 2 le «out_le») (now raw) channels 2 (now out) ⌝ }
-    ensures { λ r. ⌜ PredictedInto (now (raw .entry)) channels 2 le «out_le» (now (out .entry)) (now (out .exit)) ⌝ }
+// The width and the byte orders are said outright, so that the compiler makes a loop of each.
+pub(crate) fn differences(
+    raw: &[u8],
+    channels: usize,
+    width: usize,
+    le: bool,
+    out_le: bool,
+    out: &mut [u8],
+)
+    requires { ⌜ (served width ≡ true) × Led (predictedAt (now raw) channels width le «out_le») (now raw) channels width (now out) ⌝ }
+    ensures { λ r. ⌜ PredictedInto (now (raw .entry)) channels width le «out_le» (now (out .entry)) (now (out .exit)) ⌝ }
 {
-    let step = channels * 2;
-    let mut at = step;
-    while at < raw.len() {
-        let less = word::sub2(word::get2(raw, at, le), word::get2(raw, at - step, le));
-        word::put2(out, at, out_le, less);
-        at += 2;
-    }
-}
-
-pub(crate) fn difference4(raw: &[u8], channels: usize, le: bool, out_le: bool, out: &mut [u8])
-    requires { ⌜ Led (predictedAt (now raw) channels 4 le «out_le») (now raw) channels 4 (now out) ⌝ }
-    ensures { λ r. ⌜ PredictedInto (now (raw .entry)) channels 4 le «out_le» (now (out .entry)) (now (out .exit)) ⌝ }
-{
-    let step = channels * 4;
-    let mut at = step;
-    while at < raw.len() {
-        let less = word::sub4(word::get4(raw, at, le), word::get4(raw, at - step, le));
-        word::put4(out, at, out_le, less);
-        at += 4;
-    }
-}
-
-pub(crate) fn difference8(raw: &[u8], channels: usize, le: bool, out_le: bool, out: &mut [u8])
-    requires { ⌜ Led (predictedAt (now raw) channels 8 le «out_le») (now raw) channels 8 (now out) ⌝ }
-    ensures { λ r. ⌜ PredictedInto (now (raw .entry)) channels 8 le «out_le» (now (out .entry)) (now (out .exit)) ⌝ }
-{
-    let step = channels * 8;
-    let mut at = step;
-    while at < raw.len() {
-        let less = word::sub8(word::get8(raw, at, le), word::get8(raw, at - step, le));
-        word::put8(out, at, out_le, less);
-        at += 8;
+    if width == 1 {
+        differences_of(raw, channels, 1, le, out_le, out)
+    } else if width == 2 {
+        if le {
+            if out_le {
+                differences_of(raw, channels, 2, true, true, out)
+            } else {
+                differences_of(raw, channels, 2, true, false, out)
+            }
+        } else if out_le {
+            differences_of(raw, channels, 2, false, true, out)
+        } else {
+            differences_of(raw, channels, 2, false, false, out)
+        }
+    } else if width == 4 {
+        if le {
+            if out_le {
+                differences_of(raw, channels, 4, true, true, out)
+            } else {
+                differences_of(raw, channels, 4, true, false, out)
+            }
+        } else if out_le {
+            differences_of(raw, channels, 4, false, true, out)
+        } else {
+            differences_of(raw, channels, 4, false, false, out)
+        }
+    } else {
+        if le {
+            if out_le {
+                differences_of(raw, channels, 8, true, true, out)
+            } else {
+                differences_of(raw, channels, 8, true, false, out)
+            }
+        } else if out_le {
+            differences_of(raw, channels, 8, false, true, out)
+        } else {
+            differences_of(raw, channels, 8, false, false, out)
+        }
     }
 }

@@ -1,143 +1,129 @@
-// A row of four channels, for each width: each channel's sum stays in a local. With the byte orders said outright the compiler makes a
-// vector of a pixel.
+// A row of four channels, from the sums that they start with: each channel's sum stays in a local. A pixel is read before it is
+// written: the compiler cannot tell that the two slices are apart, and makes a vector of a pixel only so.
 use crate::word;
-ghost use Rattle.rows.specs.Row.{RowFits, UndoneInto};
+ghost use mathlib.Core.Path.{_≡_};
+ghost use mathlib.Core.Bool.{true};
+ghost use mathlib.Core.List.{[], _∷_};
+ghost use Rattle.words.specs.Promises.{served};
+ghost use Rattle.rows.specs.Row.{RowFits, ResumedInto};
 
-pub(crate) fn four1(raw: &[u8], le: bool, out_le: bool, out: &mut [u8])
-    requires { ⌜ RowFits (now raw) 4 1 (now out) ⌝ }
-    ensures { λ r. ⌜ UndoneInto (now (raw .entry)) 4 1 le «out_le» (now (out .entry)) (now (out .exit)) ⌝ }
+fn fours_of(
+    raw: &[u8],
+    width: usize,
+    le: bool,
+    out_le: bool,
+    start_a: u64,
+    start_b: u64,
+    start_c: u64,
+    start_d: u64,
+    out: &mut [u8],
+)
+    requires { ⌜ (served width ≡ true) × RowFits (now raw) 4 width (now out) ⌝ }
+    ensures { λ r. ⌜ ResumedInto (now (raw .entry)) 4 width le «out_le» («start_a» ∷ «start_b» ∷ «start_c» ∷ «start_d» ∷ []) (now (out .entry)) (now (out .exit)) ⌝ }
 {
-    let mut a: u8 = 0;
-    let mut b: u8 = 0;
-    let mut c: u8 = 0;
-    let mut d: u8 = 0;
+    let mut a = start_a;
+    let mut b = start_b;
+    let mut c = start_c;
+    let mut d = start_d;
     let mut at: usize = 0;
     while at < raw.len() {
-        a = word::add1(word::get1(raw, at, le), a);
-        b = word::add1(word::get1(raw, at + 1, le), b);
-        c = word::add1(word::get1(raw, at + 2, le), c);
-        d = word::add1(word::get1(raw, at + 3, le), d);
-        word::put1(out, at, out_le, a);
-        word::put1(out, at + 1, out_le, b);
-        word::put1(out, at + 2, out_le, c);
-        word::put1(out, at + 3, out_le, d);
-        at += 4;
+        let second = at + width;
+        let third = second + width;
+        let fourth = third + width;
+        a = word::sum(raw, at, width, le, a);
+        b = word::sum(raw, second, width, le, b);
+        c = word::sum(raw, third, width, le, c);
+        d = word::sum(raw, fourth, width, le, d);
+        word::put(out, at, width, out_le, a);
+        word::put(out, second, width, out_le, b);
+        word::put(out, third, width, out_le, c);
+        word::put(out, fourth, width, out_le, d);
+        at = fourth + width;
     }
 }
 
-fn four2(raw: &[u8], le: bool, out_le: bool, out: &mut [u8])
-    requires { ⌜ RowFits (now raw) 4 2 (now out) ⌝ }
-    ensures { λ r. ⌜ UndoneInto (now (raw .entry)) 4 2 le «out_le» (now (out .entry)) (now (out .exit)) ⌝ }
+// The width and the byte orders are said outright, so that the compiler makes a loop of each.
+pub(crate) fn fours(
+    raw: &[u8],
+    width: usize,
+    le: bool,
+    out_le: bool,
+    start_a: u64,
+    start_b: u64,
+    start_c: u64,
+    start_d: u64,
+    out: &mut [u8],
+)
+    requires { ⌜ (served width ≡ true) × RowFits (now raw) 4 width (now out) ⌝ }
+    ensures { λ r. ⌜ ResumedInto (now (raw .entry)) 4 width le «out_le» («start_a» ∷ «start_b» ∷ «start_c» ∷ «start_d» ∷ []) (now (out .entry)) (now (out .exit)) ⌝ }
 {
-    let mut a: u16 = 0;
-    let mut b: u16 = 0;
-    let mut c: u16 = 0;
-    let mut d: u16 = 0;
-    let mut at: usize = 0;
-    while at < raw.len() {
-        a = word::add2(word::get2(raw, at, le), a);
-        b = word::add2(word::get2(raw, at + 2, le), b);
-        c = word::add2(word::get2(raw, at + 4, le), c);
-        d = word::add2(word::get2(raw, at + 6, le), d);
-        word::put2(out, at, out_le, a);
-        word::put2(out, at + 2, out_le, b);
-        word::put2(out, at + 4, out_le, c);
-        word::put2(out, at + 6, out_le, d);
-        at += 8;
-    }
-}
-
-fn four4(raw: &[u8], le: bool, out_le: bool, out: &mut [u8])
-    requires { ⌜ RowFits (now raw) 4 4 (now out) ⌝ }
-    ensures { λ r. ⌜ UndoneInto (now (raw .entry)) 4 4 le «out_le» (now (out .entry)) (now (out .exit)) ⌝ }
-{
-    let mut a: u32 = 0;
-    let mut b: u32 = 0;
-    let mut c: u32 = 0;
-    let mut d: u32 = 0;
-    let mut at: usize = 0;
-    while at < raw.len() {
-        a = word::add4(word::get4(raw, at, le), a);
-        b = word::add4(word::get4(raw, at + 4, le), b);
-        c = word::add4(word::get4(raw, at + 8, le), c);
-        d = word::add4(word::get4(raw, at + 12, le), d);
-        word::put4(out, at, out_le, a);
-        word::put4(out, at + 4, out_le, b);
-        word::put4(out, at + 8, out_le, c);
-        word::put4(out, at + 12, out_le, d);
-        at += 16;
-    }
-}
-
-fn four8(raw: &[u8], le: bool, out_le: bool, out: &mut [u8])
-    requires { ⌜ RowFits (now raw) 4 8 (now out) ⌝ }
-    ensures { λ r. ⌜ UndoneInto (now (raw .entry)) 4 8 le «out_le» (now (out .entry)) (now (out .exit)) ⌝ }
-{
-    let mut a: u64 = 0;
-    let mut b: u64 = 0;
-    let mut c: u64 = 0;
-    let mut d: u64 = 0;
-    let mut at: usize = 0;
-    while at < raw.len() {
-        a = word::add8(word::get8(raw, at, le), a);
-        b = word::add8(word::get8(raw, at + 8, le), b);
-        c = word::add8(word::get8(raw, at + 16, le), c);
-        d = word::add8(word::get8(raw, at + 24, le), d);
-        word::put8(out, at, out_le, a);
-        word::put8(out, at + 8, out_le, b);
-        word::put8(out, at + 16, out_le, c);
-        word::put8(out, at + 24, out_le, d);
-        at += 32;
-    }
-}
-
-pub(crate) fn ordered2(raw: &[u8], le: bool, out_le: bool, out: &mut [u8])
-    requires { ⌜ RowFits (now raw) 4 2 (now out) ⌝ }
-    ensures { λ r. ⌜ UndoneInto (now (raw .entry)) 4 2 le «out_le» (now (out .entry)) (now (out .exit)) ⌝ }
-{
-    if le {
-        if out_le {
-            four2(raw, true, true, out)
+    if width == 1 {
+        fours_of(raw, 1, le, out_le, start_a, start_b, start_c, start_d, out)
+    } else if width == 2 {
+        if le {
+            if out_le {
+                fours_of(raw, 2, true, true, start_a, start_b, start_c, start_d, out)
+            } else {
+                fours_of(raw, 2, true, false, start_a, start_b, start_c, start_d, out)
+            }
+        } else if out_le {
+            fours_of(raw, 2, false, true, start_a, start_b, start_c, start_d, out)
         } else {
-            four2(raw, true, false, out)
+            fours_of(
+                raw,
+                2,
+                false,
+                false,
+                start_a,
+                start_b,
+                start_c,
+                start_d,
+                out,
+            )
         }
-    } else if out_le {
-        four2(raw, false, true, out)
-    } else {
-        four2(raw, false, false, out)
-    }
-}
-
-pub(crate) fn ordered4(raw: &[u8], le: bool, out_le: bool, out: &mut [u8])
-    requires { ⌜ RowFits (now raw) 4 4 (now out) ⌝ }
-    ensures { λ r. ⌜ UndoneInto (now (raw .entry)) 4 4 le «out_le» (now (out .entry)) (now (out .exit)) ⌝ }
-{
-    if le {
-        if out_le {
-            four4(raw, true, true, out)
+    } else if width == 4 {
+        if le {
+            if out_le {
+                fours_of(raw, 4, true, true, start_a, start_b, start_c, start_d, out)
+            } else {
+                fours_of(raw, 4, true, false, start_a, start_b, start_c, start_d, out)
+            }
+        } else if out_le {
+            fours_of(raw, 4, false, true, start_a, start_b, start_c, start_d, out)
         } else {
-            four4(raw, true, false, out)
+            fours_of(
+                raw,
+                4,
+                false,
+                false,
+                start_a,
+                start_b,
+                start_c,
+                start_d,
+                out,
+            )
         }
-    } else if out_le {
-        four4(raw, false, true, out)
     } else {
-        four4(raw, false, false, out)
-    }
-}
-
-pub(crate) fn ordered8(raw: &[u8], le: bool, out_le: bool, out: &mut [u8])
-    requires { ⌜ RowFits (now raw) 4 8 (now out) ⌝ }
-    ensures { λ r. ⌜ UndoneInto (now (raw .entry)) 4 8 le «out_le» (now (out .entry)) (now (out .exit)) ⌝ }
-{
-    if le {
-        if out_le {
-            four8(raw, true, true, out)
+        if le {
+            if out_le {
+                fours_of(raw, 8, true, true, start_a, start_b, start_c, start_d, out)
+            } else {
+                fours_of(raw, 8, true, false, start_a, start_b, start_c, start_d, out)
+            }
+        } else if out_le {
+            fours_of(raw, 8, false, true, start_a, start_b, start_c, start_d, out)
         } else {
-            four8(raw, true, false, out)
+            fours_of(
+                raw,
+                8,
+                false,
+                false,
+                start_a,
+                start_b,
+                start_c,
+                start_d,
+                out,
+            )
         }
-    } else if out_le {
-        four8(raw, false, true, out)
-    } else {
-        four8(raw, false, false, out)
     }
 }

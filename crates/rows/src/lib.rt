@@ -7,85 +7,7 @@ mod word;
 
 use answer::Done;
 use answer::Refusal;
-ghost use mathlib.Core.Path.{_≡_};
-ghost use mathlib.Core.Bool.{true};
-ghost use Rattle.words.specs.Promises.{served};
-ghost use Rattle.rows.specs.Row.{RowFits, RowServed, Led, LeadFits, LedInto, undoneAt, predictedAt, oneRow, UndoneInto, PredictedInto, TransformedInto, RowTransformed};
-
-fn sum(raw: &[u8], width: usize, le: bool, out_le: bool, out: &mut [u8])
-    requires { ⌜ (served width ≡ true) × RowFits (now raw) 1 width (now out) ⌝ }
-    ensures { λ r. ⌜ UndoneInto (now (raw .entry)) 1 width le «out_le» (now (out .entry)) (now (out .exit)) ⌝ }
-{
-    if width == 1 {
-        sums::sum1(raw, le, out_le, out)
-    } else if width == 2 {
-        sums::sum2(raw, le, out_le, out)
-    } else if width == 4 {
-        sums::sum4(raw, le, out_le, out)
-    } else {
-        sums::sum8(raw, le, out_le, out)
-    }
-}
-
-fn three(raw: &[u8], width: usize, le: bool, out_le: bool, out: &mut [u8])
-    requires { ⌜ (served width ≡ true) × RowFits (now raw) 3 width (now out) ⌝ }
-    ensures { λ r. ⌜ UndoneInto (now (raw .entry)) 3 width le «out_le» (now (out .entry)) (now (out .exit)) ⌝ }
-{
-    if width == 1 {
-        threes::three1(raw, le, out_le, out)
-    } else if width == 2 {
-        threes::three2(raw, le, out_le, out)
-    } else if width == 4 {
-        threes::three4(raw, le, out_le, out)
-    } else {
-        threes::three8(raw, le, out_le, out)
-    }
-}
-
-fn four(raw: &[u8], width: usize, le: bool, out_le: bool, out: &mut [u8])
-    requires { ⌜ (served width ≡ true) × RowFits (now raw) 4 width (now out) ⌝ }
-    ensures { λ r. ⌜ UndoneInto (now (raw .entry)) 4 width le «out_le» (now (out .entry)) (now (out .exit)) ⌝ }
-{
-    if width == 1 {
-        fours::four1(raw, le, out_le, out)
-    } else if width == 2 {
-        fours::ordered2(raw, le, out_le, out)
-    } else if width == 4 {
-        fours::ordered4(raw, le, out_le, out)
-    } else {
-        fours::ordered8(raw, le, out_le, out)
-    }
-}
-
-fn trail(raw: &[u8], channels: usize, width: usize, le: bool, out_le: bool, out: &mut [u8])
-    requires { ⌜ (served width ≡ true) × Led (undoneAt (now raw) channels width le «out_le») (now raw) channels width (now out) ⌝ }
-    ensures { λ r. ⌜ UndoneInto (now (raw .entry)) channels width le «out_le» (now (out .entry)) (now (out .exit)) ⌝ }
-{
-    if width == 1 {
-        trails::trail1(raw, channels, le, out_le, out)
-    } else if width == 2 {
-        trails::trail2(raw, channels, le, out_le, out)
-    } else if width == 4 {
-        trails::trail4(raw, channels, le, out_le, out)
-    } else {
-        trails::trail8(raw, channels, le, out_le, out)
-    }
-}
-
-fn difference(raw: &[u8], channels: usize, width: usize, le: bool, out_le: bool, out: &mut [u8])
-    requires { ⌜ (served width ≡ true) × Led (predictedAt (now raw) channels width le «out_le») (now raw) channels width (now out) ⌝ }
-    ensures { λ r. ⌜ PredictedInto (now (raw .entry)) channels width le «out_le» (now (out .entry)) (now (out .exit)) ⌝ }
-{
-    if width == 1 {
-        differences::difference1(raw, channels, le, out_le, out)
-    } else if width == 2 {
-        differences::difference2(raw, channels, le, out_le, out)
-    } else if width == 4 {
-        differences::difference4(raw, channels, le, out_le, out)
-    } else {
-        differences::difference8(raw, channels, le, out_le, out)
-    }
-}
+ghost use Rattle.rows.specs.Row.{RowServed, LeadFits, LedInto, oneRow, UndoneInto, PredictedInto, TransformedInto, RowTransformed};
 
 // The first words of a row, which stand for themselves.
 fn lead(raw: &[u8], step: usize, width: usize, le: bool, out_le: bool, out: &mut [u8])
@@ -101,12 +23,12 @@ fn undo_words(raw: &[u8], channels: usize, width: usize, le: bool, out_le: bool,
     ensures { λ r. ⌜ UndoneInto (now (raw .entry)) channels width le «out_le» (now (out .entry)) (now (out .exit)) ⌝ }
 {
     match channels {
-        1 => sum(raw, width, le, out_le, out),
-        3 => three(raw, width, le, out_le, out),
-        4 => four(raw, width, le, out_le, out),
+        1 => sums::sums(raw, width, le, out_le, 0, out),
+        3 => threes::threes(raw, width, le, out_le, 0, 0, 0, out),
+        4 => fours::fours(raw, width, le, out_le, 0, 0, 0, 0, out),
         _ => {
             lead(raw, channels * width, width, le, out_le, out);
-            trail(raw, channels, width, le, out_le, out)
+            trails::trails(raw, channels, width, le, out_le, out)
         }
     }
 }
@@ -116,7 +38,7 @@ fn predict_words(raw: &[u8], channels: usize, width: usize, le: bool, out_le: bo
     ensures { λ r. ⌜ PredictedInto (now (raw .entry)) channels width le «out_le» (now (out .entry)) (now (out .exit)) ⌝ }
 {
     lead(raw, channels * width, width, le, out_le, out);
-    difference(raw, channels, width, le, out_le, out)
+    differences::differences(raw, channels, width, le, out_le, out)
 }
 
 fn transform_words(

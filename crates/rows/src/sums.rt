@@ -1,55 +1,66 @@
-// A row of one channel, for each width: the previous sample stays in a local.
+// A row of one channel, from the sum that it starts with: the sum stays in a local.
 use crate::word;
-ghost use Rattle.rows.specs.Row.{RowFits, UndoneInto};
+ghost use mathlib.Core.Path.{_≡_};
+ghost use mathlib.Core.Bool.{true};
+ghost use mathlib.Core.List.{[], _∷_};
+ghost use Rattle.words.specs.Promises.{served};
+ghost use Rattle.rows.specs.Row.{RowFits, ResumedInto};
 
-pub(crate) fn sum1(raw: &[u8], le: bool, out_le: bool, out: &mut [u8])
-    requires { ⌜ RowFits (now raw) 1 1 (now out) ⌝ }
-    ensures { λ r. ⌜ UndoneInto (now (raw .entry)) 1 1 le «out_le» (now (out .entry)) (now (out .exit)) ⌝ }
+fn sums_of(raw: &[u8], width: usize, le: bool, out_le: bool, start: u64, out: &mut [u8])
+    requires { ⌜ (served width ≡ true) × RowFits (now raw) 1 width (now out) ⌝ }
+    ensures { λ r. ⌜ ResumedInto (now (raw .entry)) 1 width le «out_le» (start ∷ []) (now (out .entry)) (now (out .exit)) ⌝ }
 {
-    let mut sum: u8 = 0;
+    let mut sum = start;
     let mut at: usize = 0;
     while at < raw.len() {
-        sum = word::add1(word::get1(raw, at, le), sum);
-        word::put1(out, at, out_le, sum);
-        at += 1;
+        sum = word::sum(raw, at, width, le, sum);
+        word::put(out, at, width, out_le, sum);
+        at += width;
     }
 }
 
-pub(crate) fn sum2(raw: &[u8], le: bool, out_le: bool, out: &mut [u8])
-    requires { ⌜ RowFits (now raw) 1 2 (now out) ⌝ }
-    ensures { λ r. ⌜ UndoneInto (now (raw .entry)) 1 2 le «out_le» (now (out .entry)) (now (out .exit)) ⌝ }
+// The width and the byte orders are said outright, so that the compiler makes a loop of each.
+pub(crate) fn sums(raw: &[u8], width: usize, le: bool, out_le: bool, start: u64, out: &mut [u8])
+    requires { ⌜ (served width ≡ true) × RowFits (now raw) 1 width (now out) ⌝ }
+    ensures { λ r. ⌜ ResumedInto (now (raw .entry)) 1 width le «out_le» (start ∷ []) (now (out .entry)) (now (out .exit)) ⌝ }
 {
-    let mut sum: u16 = 0;
-    let mut at: usize = 0;
-    while at < raw.len() {
-        sum = word::add2(word::get2(raw, at, le), sum);
-        word::put2(out, at, out_le, sum);
-        at += 2;
-    }
-}
-
-pub(crate) fn sum4(raw: &[u8], le: bool, out_le: bool, out: &mut [u8])
-    requires { ⌜ RowFits (now raw) 1 4 (now out) ⌝ }
-    ensures { λ r. ⌜ UndoneInto (now (raw .entry)) 1 4 le «out_le» (now (out .entry)) (now (out .exit)) ⌝ }
-{
-    let mut sum: u32 = 0;
-    let mut at: usize = 0;
-    while at < raw.len() {
-        sum = word::add4(word::get4(raw, at, le), sum);
-        word::put4(out, at, out_le, sum);
-        at += 4;
-    }
-}
-
-pub(crate) fn sum8(raw: &[u8], le: bool, out_le: bool, out: &mut [u8])
-    requires { ⌜ RowFits (now raw) 1 8 (now out) ⌝ }
-    ensures { λ r. ⌜ UndoneInto (now (raw .entry)) 1 8 le «out_le» (now (out .entry)) (now (out .exit)) ⌝ }
-{
-    let mut sum: u64 = 0;
-    let mut at: usize = 0;
-    while at < raw.len() {
-        sum = word::add8(word::get8(raw, at, le), sum);
-        word::put8(out, at, out_le, sum);
-        at += 8;
+    if width == 1 {
+        sums_of(raw, 1, le, out_le, start, out)
+    } else if width == 2 {
+        if le {
+            if out_le {
+                sums_of(raw, 2, true, true, start, out)
+            } else {
+                sums_of(raw, 2, true, false, start, out)
+            }
+        } else if out_le {
+            sums_of(raw, 2, false, true, start, out)
+        } else {
+            sums_of(raw, 2, false, false, start, out)
+        }
+    } else if width == 4 {
+        if le {
+            if out_le {
+                sums_of(raw, 4, true, true, start, out)
+            } else {
+                sums_of(raw, 4, true, false, start, out)
+            }
+        } else if out_le {
+            sums_of(raw, 4, false, true, start, out)
+        } else {
+            sums_of(raw, 4, false, false, start, out)
+        }
+    } else {
+        if le {
+            if out_le {
+                sums_of(raw, 8, true, true, start, out)
+            } else {
+                sums_of(raw, 8, true, false, start, out)
+            }
+        } else if out_le {
+            sums_of(raw, 8, false, true, start, out)
+        } else {
+            sums_of(raw, 8, false, false, start, out)
+        }
     }
 }

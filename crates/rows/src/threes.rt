@@ -1,79 +1,93 @@
-// A row of three channels, for each width: each channel's sum stays in a local.
+// A row of three channels, from the sums that they start with: each channel's sum stays in a local. A pixel is read before it is
+// written: the compiler cannot tell that the two slices are apart, and makes a vector of a pixel only so.
 use crate::word;
-ghost use Rattle.rows.specs.Row.{RowFits, UndoneInto};
+ghost use mathlib.Core.Path.{_≡_};
+ghost use mathlib.Core.Bool.{true};
+ghost use mathlib.Core.List.{[], _∷_};
+ghost use Rattle.words.specs.Promises.{served};
+ghost use Rattle.rows.specs.Row.{RowFits, ResumedInto};
 
-pub(crate) fn three1(raw: &[u8], le: bool, out_le: bool, out: &mut [u8])
-    requires { ⌜ RowFits (now raw) 3 1 (now out) ⌝ }
-    ensures { λ r. ⌜ UndoneInto (now (raw .entry)) 3 1 le «out_le» (now (out .entry)) (now (out .exit)) ⌝ }
+fn threes_of(
+    raw: &[u8],
+    width: usize,
+    le: bool,
+    out_le: bool,
+    start_a: u64,
+    start_b: u64,
+    start_c: u64,
+    out: &mut [u8],
+)
+    requires { ⌜ (served width ≡ true) × RowFits (now raw) 3 width (now out) ⌝ }
+    ensures { λ r. ⌜ ResumedInto (now (raw .entry)) 3 width le «out_le» («start_a» ∷ «start_b» ∷ «start_c» ∷ []) (now (out .entry)) (now (out .exit)) ⌝ }
 {
-    let mut a: u8 = 0;
-    let mut b: u8 = 0;
-    let mut c: u8 = 0;
+    let mut a = start_a;
+    let mut b = start_b;
+    let mut c = start_c;
     let mut at: usize = 0;
     while at < raw.len() {
-        a = word::add1(word::get1(raw, at, le), a);
-        b = word::add1(word::get1(raw, at + 1, le), b);
-        c = word::add1(word::get1(raw, at + 2, le), c);
-        word::put1(out, at, out_le, a);
-        word::put1(out, at + 1, out_le, b);
-        word::put1(out, at + 2, out_le, c);
-        at += 3;
+        let second = at + width;
+        let third = second + width;
+        a = word::sum(raw, at, width, le, a);
+        b = word::sum(raw, second, width, le, b);
+        c = word::sum(raw, third, width, le, c);
+        word::put(out, at, width, out_le, a);
+        word::put(out, second, width, out_le, b);
+        word::put(out, third, width, out_le, c);
+        at = third + width;
     }
 }
 
-pub(crate) fn three2(raw: &[u8], le: bool, out_le: bool, out: &mut [u8])
-    requires { ⌜ RowFits (now raw) 3 2 (now out) ⌝ }
-    ensures { λ r. ⌜ UndoneInto (now (raw .entry)) 3 2 le «out_le» (now (out .entry)) (now (out .exit)) ⌝ }
+// The width and the byte orders are said outright, so that the compiler makes a loop of each.
+pub(crate) fn threes(
+    raw: &[u8],
+    width: usize,
+    le: bool,
+    out_le: bool,
+    start_a: u64,
+    start_b: u64,
+    start_c: u64,
+    out: &mut [u8],
+)
+    requires { ⌜ (served width ≡ true) × RowFits (now raw) 3 width (now out) ⌝ }
+    ensures { λ r. ⌜ ResumedInto (now (raw .entry)) 3 width le «out_le» («start_a» ∷ «start_b» ∷ «start_c» ∷ []) (now (out .entry)) (now (out .exit)) ⌝ }
 {
-    let mut a: u16 = 0;
-    let mut b: u16 = 0;
-    let mut c: u16 = 0;
-    let mut at: usize = 0;
-    while at < raw.len() {
-        a = word::add2(word::get2(raw, at, le), a);
-        b = word::add2(word::get2(raw, at + 2, le), b);
-        c = word::add2(word::get2(raw, at + 4, le), c);
-        word::put2(out, at, out_le, a);
-        word::put2(out, at + 2, out_le, b);
-        word::put2(out, at + 4, out_le, c);
-        at += 6;
-    }
-}
-
-pub(crate) fn three4(raw: &[u8], le: bool, out_le: bool, out: &mut [u8])
-    requires { ⌜ RowFits (now raw) 3 4 (now out) ⌝ }
-    ensures { λ r. ⌜ UndoneInto (now (raw .entry)) 3 4 le «out_le» (now (out .entry)) (now (out .exit)) ⌝ }
-{
-    let mut a: u32 = 0;
-    let mut b: u32 = 0;
-    let mut c: u32 = 0;
-    let mut at: usize = 0;
-    while at < raw.len() {
-        a = word::add4(word::get4(raw, at, le), a);
-        b = word::add4(word::get4(raw, at + 4, le), b);
-        c = word::add4(word::get4(raw, at + 8, le), c);
-        word::put4(out, at, out_le, a);
-        word::put4(out, at + 4, out_le, b);
-        word::put4(out, at + 8, out_le, c);
-        at += 12;
-    }
-}
-
-pub(crate) fn three8(raw: &[u8], le: bool, out_le: bool, out: &mut [u8])
-    requires { ⌜ RowFits (now raw) 3 8 (now out) ⌝ }
-    ensures { λ r. ⌜ UndoneInto (now (raw .entry)) 3 8 le «out_le» (now (out .entry)) (now (out .exit)) ⌝ }
-{
-    let mut a: u64 = 0;
-    let mut b: u64 = 0;
-    let mut c: u64 = 0;
-    let mut at: usize = 0;
-    while at < raw.len() {
-        a = word::add8(word::get8(raw, at, le), a);
-        b = word::add8(word::get8(raw, at + 8, le), b);
-        c = word::add8(word::get8(raw, at + 16, le), c);
-        word::put8(out, at, out_le, a);
-        word::put8(out, at + 8, out_le, b);
-        word::put8(out, at + 16, out_le, c);
-        at += 24;
+    if width == 1 {
+        threes_of(raw, 1, le, out_le, start_a, start_b, start_c, out)
+    } else if width == 2 {
+        if le {
+            if out_le {
+                threes_of(raw, 2, true, true, start_a, start_b, start_c, out)
+            } else {
+                threes_of(raw, 2, true, false, start_a, start_b, start_c, out)
+            }
+        } else if out_le {
+            threes_of(raw, 2, false, true, start_a, start_b, start_c, out)
+        } else {
+            threes_of(raw, 2, false, false, start_a, start_b, start_c, out)
+        }
+    } else if width == 4 {
+        if le {
+            if out_le {
+                threes_of(raw, 4, true, true, start_a, start_b, start_c, out)
+            } else {
+                threes_of(raw, 4, true, false, start_a, start_b, start_c, out)
+            }
+        } else if out_le {
+            threes_of(raw, 4, false, true, start_a, start_b, start_c, out)
+        } else {
+            threes_of(raw, 4, false, false, start_a, start_b, start_c, out)
+        }
+    } else {
+        if le {
+            if out_le {
+                threes_of(raw, 8, true, true, start_a, start_b, start_c, out)
+            } else {
+                threes_of(raw, 8, true, false, start_a, start_b, start_c, out)
+            }
+        } else if out_le {
+            threes_of(raw, 8, false, true, start_a, start_b, start_c, out)
+        } else {
+            threes_of(raw, 8, false, false, start_a, start_b, start_c, out)
+        }
     }
 }

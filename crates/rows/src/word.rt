@@ -2,9 +2,10 @@
 // least significant first, and the word turned as a number: so the compiler makes one load, one swap and one store of them, and many at once.
 ghost use mathlib.Core.Path.{_≡_};
 ghost use mathlib.Core.Bool.{true};
-ghost use Prim.Native.Nat.{_+_, _≤_};
+ghost use Prim.Native.Nat.{_+_, _≤_, _<_};
 ghost use lib.ListN.{length};
-ghost use Rattle.words.specs.Word.{wordAt, Put, plus, minus};
+ghost use Rattle.words.specs.Word.{wordAt, Put, modulus, plus, minus};
+ghost use Rattle.words.specs.Promises.{served};
 
 pub(crate) fn get1(s: &[u8], at: usize, le: bool) -> u8
     requires { ⌜ at + 1 ≤ length (now s) ⌝ }
@@ -118,50 +119,72 @@ pub(crate) fn put8(out: &mut [u8], at: usize, le: bool, v: u64)
     }
 }
 
-pub(crate) fn add1(a: u8, b: u8) -> u8
-    ensures { λ r. ⌜ r ≡ plus 1 a b ⌝ }
+// The same for a width that is an argument. With a constant there the compiler keeps one arm.
+pub(crate) fn get(s: &[u8], at: usize, width: usize, le: bool) -> u64
+    requires { ⌜ (served width ≡ true) × (at + width ≤ length (now s)) ⌝ }
+    ensures { λ r. ⌜ (r ≡ wordAt (now (s .entry)) at width le) × (r < modulus width) ⌝ }
 {
-    (((a as u16) + (b as u16)) % 256) as u8
+    if width == 1 {
+        get1(s, at, le) as u64
+    } else if width == 2 {
+        get2(s, at, le) as u64
+    } else if width == 4 {
+        get4(s, at, le) as u64
+    } else {
+        get8(s, at, le)
+    }
 }
 
-pub(crate) fn add2(a: u16, b: u16) -> u16
-    ensures { λ r. ⌜ r ≡ plus 2 a b ⌝ }
+// The low bytes of any number.
+pub(crate) fn put(out: &mut [u8], at: usize, width: usize, le: bool, v: u64)
+    requires { ⌜ (served width ≡ true) × (at + width ≤ length (now out)) ⌝ }
+    ensures { λ r. ⌜ Put (now (out .entry)) at width le v (now (out .exit)) ⌝ }
 {
-    (((a as u32) + (b as u32)) % 65536) as u16
+    if width == 1 {
+        put1(out, at, le, (v % 256) as u8)
+    } else if width == 2 {
+        put2(out, at, le, (v % 65536) as u16)
+    } else if width == 4 {
+        put4(out, at, le, (v % 4294967296) as u32)
+    } else {
+        put8(out, at, le, v)
+    }
 }
 
-pub(crate) fn add4(a: u32, b: u32) -> u32
-    ensures { λ r. ⌜ r ≡ plus 4 a b ⌝ }
+pub(crate) fn add(a: u64, b: u64, width: usize) -> u64
+    requires { ⌜ served width ≡ true ⌝ }
+    ensures { λ r. ⌜ r ≡ plus width a b ⌝ }
 {
-    (((a as u64) + (b as u64)) % 4294967296) as u32
+    if width == 1 {
+        std::num::wrapping_add_u64(a, b) % 256
+    } else if width == 2 {
+        std::num::wrapping_add_u64(a, b) % 65536
+    } else if width == 4 {
+        std::num::wrapping_add_u64(a, b) % 4294967296
+    } else {
+        std::num::wrapping_add_u64(a, b)
+    }
 }
 
-pub(crate) fn add8(a: u64, b: u64) -> u64
-    ensures { λ r. ⌜ r ≡ plus 8 a b ⌝ }
+pub(crate) fn sub(a: u64, b: u64, width: usize) -> u64
+    requires { ⌜ (served width ≡ true) × (b < modulus width) ⌝ }
+    ensures { λ r. ⌜ r ≡ minus width a b ⌝ }
 {
-    std::num::wrapping_add_u64(a, b)
+    if width == 1 {
+        std::num::wrapping_sub_u64(a, b) % 256
+    } else if width == 2 {
+        std::num::wrapping_sub_u64(a, b) % 65536
+    } else if width == 4 {
+        std::num::wrapping_sub_u64(a, b) % 4294967296
+    } else {
+        std::num::wrapping_sub_u64(a, b)
+    }
 }
 
-pub(crate) fn sub1(a: u8, b: u8) -> u8
-    ensures { λ r. ⌜ r ≡ minus 1 a b ⌝ }
+// The sample at a place: its word and the sum so far of its channel.
+pub(crate) fn sum(raw: &[u8], at: usize, width: usize, le: bool, so_far: u64) -> u64
+    requires { ⌜ (served width ≡ true) × (at + width ≤ length (now raw)) ⌝ }
+    ensures { λ r. ⌜ r ≡ plus width (wordAt (now (raw .entry)) at width le) «so_far» ⌝ }
 {
-    (((a as u16) + (256 - (b as u16))) % 256) as u8
-}
-
-pub(crate) fn sub2(a: u16, b: u16) -> u16
-    ensures { λ r. ⌜ r ≡ minus 2 a b ⌝ }
-{
-    (((a as u32) + (65536 - (b as u32))) % 65536) as u16
-}
-
-pub(crate) fn sub4(a: u32, b: u32) -> u32
-    ensures { λ r. ⌜ r ≡ minus 4 a b ⌝ }
-{
-    (((a as u64) + (4294967296 - (b as u64))) % 4294967296) as u32
-}
-
-pub(crate) fn sub8(a: u64, b: u64) -> u64
-    ensures { λ r. ⌜ r ≡ minus 8 a b ⌝ }
-{
-    std::num::wrapping_sub_u64(a, b)
+    add(get(raw, at, width, le), so_far, width)
 }

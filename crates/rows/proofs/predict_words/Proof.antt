@@ -20,8 +20,8 @@ lead-requires c κs =
     let start = c .before .before .before in
     record { takes = start .pre .takes; words = mul-mod-left (start .args .channels) (start .args .width); within = start .pre .step; room = omega (arith, start .pre .step, start .pre .fits .room) }
 
-difference-requires : tie.Need-difference-requires
-difference-requires c κs =
+differences-requires : tie.Need-differences-requires
+differences-requires c κs =
     let start-known = c .before .before .before .before .before .before in
     let start = start-known .before in
     (start .pre .takes, goes-on (predictedAt (now (start .args .raw)) (start .args .channels) (start .args .width) (start .args .le) (start .args .out-le)) (now (start .args .raw)) (start .args .channels) (start .args .width) (start .args .le) (start .args .out-le) (now (start .args .out)) _ (start .pre) (λ k h. first-predicted (now (start .args .raw)) (bytes start-known) (start .args .channels) (start .args .width) (start .pre .fits .wide) (start .args .le) (start .args .out-le) k h) (c .before .before .before .lead .ensures))
@@ -33,7 +33,7 @@ returns : tie.Need-returns
 returns c =
     let start-known = c .before .before .before .before .before .before .before .before .before in
     let start = start-known .before in
-    done-on (predictedAt (now (start .args .raw)) (start .args .channels) (start .args .width) (start .args .le) (start .args .out-le)) (now (start .args .raw)) (start .args .channels) (start .args .width) (start .args .le) (start .args .out-le) (now (start .args .out)) _ (start .pre) (λ k h. first-predicted (now (start .args .raw)) (bytes start-known) (start .args .channels) (start .args .width) (start .pre .fits .wide) (start .args .le) (start .args .out-le) k h) (c .before .before .before .before .before .before .lead .ensures) _ (c .before .before .difference .ensures)
+    done-on (predictedAt (now (start .args .raw)) (start .args .channels) (start .args .width) (start .args .le) (start .args .out-le)) (now (start .args .raw)) (start .args .channels) (start .args .width) (start .args .le) (start .args .out-le) (now (start .args .out)) _ (start .pre) (λ k h. first-predicted (now (start .args .raw)) (bytes start-known) (start .args .channels) (start .args .width) (start .pre .fits .wide) (start .args .le) (start .args .out-le) k h) (c .before .before .before .before .before .before .lead .ensures) _ (c .before .before .differences .ensures)
 
 pub predict-words-spec : {M : Type 1} → statement M
-predict-words-spec = tie.close (tie.spec mul-lead lead-requires difference-requires same-length returns)
+predict-words-spec = tie.close (tie.spec mul-lead lead-requires differences-requires same-length returns)

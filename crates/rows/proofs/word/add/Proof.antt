@@ -1,0 +1,24 @@
+-- `rows::word::add` meets its contract: a sum modulo 2^64 is, modulo 256^width, the sum. Assumes nothing.
+use borrow.Author.Needs.{needs}
+use mathlib.Core.Path.{_≡_}
+use native.Mathlib.Omega.{arith}
+use Rattle.words.proofs.Served.{served-eight}
+use Rattle.rows.proofs.word.add.Statement.{statement}
+use Rattle.rows.proofs.word.add.Tie as tie
+
+-- the width that is left
+eight : (c : tie.Else3) → c .before .before .before .args .width ≡ 8
+eight c = served-eight _ (c .before .before .before .pre) (c .before .before .if1 .left) (c .before .if2 .left) (c .if3 .left)
+
+pub add-spec : {M : Type 1} → statement M
+add-spec =
+    tie.close
+    (tie.spec
+    (λ c κs. search needs)
+    (λ c κs. search needs)
+    (λ c κs. search needs)
+    (λ c κs. search needs)
+    (λ c. rw (c .before .if1 .taken) (omega (arith, c .wrapping-add-u64 .ensures)))
+    (λ c. rw (c .before .if2 .taken) (omega (arith, c .wrapping-add-u642 .ensures)))
+    (λ c. rw (c .before .if3 .taken) (omega (arith, c .wrapping-add-u643 .ensures)))
+    (λ c. rw (eight (c .before)) (c .wrapping-add-u644 .ensures)))
