@@ -7,10 +7,10 @@ use mathlib.Core.List.{List}
 use Rattle.answer.specs.Outcome.{Outcome, doneOutcome}
 use Rattle.words.specs.Promises.{ReadWord, LoadedWord, wordOutcome, loadedOutcome}
 use Rattle.words.proofs.Determined.{read-word-determined, load-determined}
-use Rattle.strips.specs.Sample.{Strip}
-use Rattle.strips.specs.Promises.{StripChecked, Converted, Forwarded}
-use Rattle.strips.proofs.Determined.{check-strip-determined}
-use Rattle.samples.proofs.Determined.{convert-determined, forward-determined}
+use Rattle.samples.specs.Sample.{Strip}
+use Rattle.samples.specs.Promises.{StripChecked, Converted, Forwarded}
+use Rattle.samples.proofs.Determined.{check-strip-determined}
+use Rattle.strips.proofs.Determined.{convert-determined, forward-determined}
 use Rattle.damage.specs.Promises.{Marked, countedOutcome}
 use Rattle.damage.proofs.Determined.{marks-determined}
 use Rattle.swaps.specs.Swapped.{Swapped}

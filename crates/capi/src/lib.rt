@@ -12,8 +12,8 @@ mod write_planes;
 ghost use mathlib.Core.Path.{_≡_};
 ghost use Rattle.answer.specs.Outcome.{doneOutcome};
 ghost use Rattle.words.specs.Promises.{ReadWord, LoadedWord, wordOutcome, loadedOutcome};
-ghost use Rattle.strips.specs.Sample.{strip};
-ghost use Rattle.strips.specs.Promises.{StripChecked, Converted, Forwarded};
+ghost use Rattle.samples.specs.Sample.{strip};
+ghost use Rattle.samples.specs.Promises.{StripChecked, Converted, Forwarded};
 ghost use Rattle.damage.specs.Promises.{Marked, countedOutcome};
 ghost use Rattle.swaps.specs.Swapped.{Swapped};
 ghost use Rattle.transport.specs.Moved.{Committed, Turned};
@@ -73,7 +73,7 @@ pub extern "C" fn hamrisk_check_strip(
 ) -> u32
     ensures { λ r. ⌜ Told doneOutcome (StripChecked «raw_len» (strip «row_bytes» channels width)) r ⌝ }
 {
-    status(samples::check_strip(raw_len, row_bytes, channels, width))
+    status(strips::check_strip(raw_len, row_bytes, channels, width))
 }
 
 // The samples of a strip, each stored in the asked byte order.
@@ -90,7 +90,7 @@ pub extern "C" fn hamrisk_convert(
 ) -> u32
     ensures { λ r. ⌜ Told doneOutcome (λ d. Converted (now (raw .entry)) (strip «row_bytes» channels width) predict le «out_le» (now (out .entry)) d (now (out .exit))) r ⌝ }
 {
-    status(samples::convert(raw, row_bytes, channels, width, le, predict, out_le, out))
+    status(strips::convert(raw, row_bytes, channels, width, le, predict, out_le, out))
 }
 
 // Forward prediction: the words that `hamrisk_convert` reads back to these samples.
@@ -107,7 +107,7 @@ pub extern "C" fn hamrisk_forward(
 ) -> u32
     ensures { λ r. ⌜ Told doneOutcome (λ d. Forwarded (now (raw .entry)) (strip «row_bytes» channels width) predict le «out_le» (now (out .entry)) d (now (out .exit))) r ⌝ }
 {
-    status(samples::forward(raw, row_bytes, channels, width, le, predict, out_le, out))
+    status(strips::forward(raw, row_bytes, channels, width, le, predict, out_le, out))
 }
 
 // Which samples the damaged bytes can change, and how many they are.

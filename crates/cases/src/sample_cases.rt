@@ -11,7 +11,7 @@ pub fn check_strip(line: &[u8]) -> bool {
     let row = text::size(token(line, 2));
     let channels = text::size(token(line, 3));
     let width = text::size(token(line, 4));
-    outcome(samples::check_strip(bytes, row, channels, width)) == text::number(token(line, 6))
+    outcome(strips::check_strip(bytes, row, channels, width)) == text::number(token(line, 6))
 }
 
 // convert BYTES ROW CHANNELS WIDTH le|be predicted|plain le|be ROOM = NUMBER WRITTEN, and forward likewise
@@ -36,9 +36,9 @@ fn transformed(line: &[u8], forward: bool, raw: &[u8], out: &mut [u8]) -> u64 {
     let predict = check::same(token(line, 6), b"predicted");
     let out_le = check::same(token(line, 7), b"le");
     if forward {
-        outcome(samples::forward(raw, row, channels, width, le, predict, out_le, out))
+        outcome(strips::forward(raw, row, channels, width, le, predict, out_le, out))
     } else {
-        outcome(samples::convert(raw, row, channels, width, le, predict, out_le, out))
+        outcome(strips::convert(raw, row, channels, width, le, predict, out_le, out))
     }
 }
 
@@ -51,7 +51,7 @@ pub fn reorder(line: &[u8]) -> bool {
     let le = check::same(token(line, 3), b"le");
     let out_le = check::same(token(line, 4), b"le");
     let room = text::size(token(line, 5));
-    let got = outcome(strips::reorder(
+    let got = outcome(samples::reorder(
         front(&raw, n),
         width,
         le,

@@ -5,7 +5,7 @@ use mathlib.Core.List.{List}
 use Prim.Native.Nat.{ℕ}
 use Rattle.answer.specs.Outcome.{Outcome, done, refused}
 use Rattle.answer.proofs.Promised.{kind, kind-number, once, determined}
-use Rattle.strips.specs.Sample.{Strip}
+use Rattle.samples.specs.Sample.{Strip}
 use Rattle.damage.specs.declared.Counted.{Counted}
 use Rattle.damage.specs.declared.Counted.the-variants as Counted-is
 use Rattle.damage.specs.Promises.{countedOutcome, Marked}

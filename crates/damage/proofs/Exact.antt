@@ -16,9 +16,9 @@ use Rattle.answer.proofs.Filling.{length-table, table-at}
 use Rattle.words.specs.Digits.{digit}
 use Rattle.words.specs.Word.{turn, Bytes, modulus, plus, minus}
 use Rattle.words.proofs.Words.{word-below, word-digit, word-same, plus-minus}
-use Rattle.strips.specs.Sample.{Strip, alone, wordOf, sample}
-use Rattle.strips.proofs.Sums.{neither, not-alone, sample-alone, sample-later}
-use Rattle.strips.proofs.Undo.{sample-below}
+use Rattle.samples.specs.Sample.{Strip, alone, wordOf, sample}
+use Rattle.samples.proofs.Sums.{neither, not-alone, sample-alone, sample-later}
+use Rattle.samples.proofs.Undo.{sample-below}
 use Rattle.damage.specs.Marks.{struck, marked, markByte, Alike, Differ}
 use Rattle.damage.proofs.Marking.{past-end, mark-small, damaged-hurt, unstruck, struck-where, marked-alone, marked-later}
 

@@ -10,9 +10,9 @@ use lib.Dec.{eqb}
 use lib.ListN.{length, getD}
 use Rattle.answer.specs.Outcome.{Sound}
 use Rattle.answer.proofs.Promised.{done-sound, done-value}
-use Rattle.strips.specs.Sample.{Strip, Good, sample}
-use Rattle.strips.proofs.Strips.{per-row, width-fits}
-use Rattle.strips.proofs.Rows.{row-alone}
+use Rattle.samples.specs.Sample.{Strip, Good, sample}
+use Rattle.samples.proofs.Strips.{per-row, width-fits}
+use Rattle.samples.proofs.Rows.{row-alone}
 use Rattle.damage.specs.declared.Counted.the-variants as Counted-is
 use Rattle.damage.specs.Marks.{damaged, struck, marked, markByte, counted, Alike}
 use Rattle.damage.specs.Promises.{samplesOf, markFaults, Marked}

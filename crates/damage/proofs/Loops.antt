@@ -14,8 +14,8 @@ use lib.ListN.{length, getD, set, length-set}
 use lib.Seq.{getD-set-same, getD-set-other, ext-getD}
 use Rattle.answer.specs.Table.{table, filled}
 use Rattle.answer.proofs.Filling.{part, length-part, part-at, length-table, table-at, table-same, table-self, filled-more, filled-all}
-use Rattle.strips.specs.Sample.{strip, alone}
-use Rattle.strips.proofs.Sums.{first-alone}
+use Rattle.samples.specs.Sample.{strip, alone}
+use Rattle.samples.proofs.Sums.{first-alone}
 use Rattle.damage.specs.Marks.{damaged, struckAt, struck, marked, markByte, counted}
 use Rattle.damage.specs.Passes.{larger, Bits, OneEach, OwnInto, SpreadInto}
 use Rattle.damage.proofs.Marking.{past-end, mark-small, struck-one, marked-alone, marked-later}

@@ -14,8 +14,8 @@ use Rattle.answer.specs.Outcome.{pick}
 use Rattle.words.specs.Digits.{value}
 use Rattle.words.specs.Word.{wordAt}
 use Rattle.swaps.proofs.Mirror.{into-group}
-use Rattle.strips.specs.Sample.{Strip, alone}
-use Rattle.strips.proofs.Sums.{neither, in-row, not-alone, first-alone}
+use Rattle.samples.specs.Sample.{Strip, alone}
+use Rattle.samples.proofs.Sums.{neither, in-row, not-alone, first-alone}
 use Rattle.damage.specs.Marks.{damaged, anyBelow, struckAt, struck, tainted, marked, markByte}
 use Rattle.damage.specs.Passes.{markOf}
 

@@ -10,9 +10,9 @@ use Rattle.answer.specs.Outcome.{unless, Promise, Sound}
 use Rattle.answer.specs.Table.{table}
 use Rattle.answer.proofs.Promised.{finished, finishes, sound-front}
 use Rattle.answer.proofs.Filling.{part, length-part, part-filled, table-same, filled-front}
-use Rattle.strips.specs.Sample.{Strip, Good}
-use Rattle.strips.specs.Promises.{stripFaults}
-use Rattle.strips.proofs.Strips.{good-checked, bytes-words}
+use Rattle.samples.specs.Sample.{Strip, Good}
+use Rattle.samples.specs.Promises.{stripFaults}
+use Rattle.samples.proofs.Strips.{good-checked, bytes-words}
 use Rattle.damage.specs.declared.Counted.{Counted}
 use Rattle.damage.specs.declared.Counted.the-variants as Counted-is
 use Rattle.damage.specs.Marks.{marked, markByte, counted}

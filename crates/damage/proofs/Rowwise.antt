@@ -12,8 +12,8 @@ use Rattle.answer.proofs.Promised.{sound-here}
 use Rattle.answer.proofs.Filling.{part, length-part, part-at, part-filled, length-table, length-filled, filled-all, table-same}
 use Rattle.words.specs.Promises.{served}
 use Rattle.swaps.proofs.Mirror.{group-room}
-use Rattle.strips.specs.Sample.{Strip, strip, Good}
-use Rattle.strips.proofs.Strips.{good-checked, per-row}
+use Rattle.samples.specs.Sample.{Strip, strip, Good}
+use Rattle.samples.proofs.Strips.{good-checked, per-row}
 use Rattle.damage.specs.Marks.{damaged, struck, marked, markByte, counted}
 use Rattle.damage.specs.Passes.{Bits, OwnInto, SpreadInto, RowFits, StripFits, MarkedInto, RowMarked}
 use Rattle.damage.proofs.Marking.{struck-same, struck-one, marked-alone, same-marks}

@@ -9,7 +9,7 @@ use lib.ListN.{length, getD}
 use lib.Dec.{eqb}
 use Rattle.answer.specs.Outcome.{pick}
 use Rattle.words.specs.Word.{Bytes}
-use Rattle.strips.specs.Sample.{Strip, alone, sample}
+use Rattle.samples.specs.Sample.{Strip, alone, sample}
 
 -- byte k is damaged
 abbrev pub damaged : List ℕ → ℕ → Bool

@@ -8,8 +8,8 @@ use lib.Dec.{eqb, ltb}
 use Rattle.answer.specs.Outcome.{Sound, pick}
 use Rattle.answer.specs.Table.{table}
 use Rattle.words.specs.Promises.{served}
-use Rattle.strips.specs.Sample.{Strip, strip}
-use Rattle.strips.specs.Promises.{stripFaults}
+use Rattle.samples.specs.Sample.{Strip, strip}
+use Rattle.samples.specs.Promises.{stripFaults}
 use Rattle.damage.specs.Marks.{struck, marked, markByte, counted}
 
 abbrev pub larger : ℕ → ℕ → ℕ

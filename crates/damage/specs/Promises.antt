@@ -8,8 +8,8 @@ use lib.ListN.{length, getD}
 use lib.Dec.{ltb}
 use Rattle.answer.specs.Outcome.{Outcome, done, refused, number, Fault, unless, outputTooSmall, Promise, Sound}
 use Rattle.answer.specs.Table.{table}
-use Rattle.strips.specs.Sample.{Strip}
-use Rattle.strips.specs.Promises.{stripFaults}
+use Rattle.samples.specs.Sample.{Strip}
+use Rattle.samples.specs.Promises.{stripFaults}
 use Rattle.damage.specs.declared.Counted.{Counted}
 use Rattle.damage.specs.declared.Counted.the-variants as Counted-is
 use Rattle.damage.specs.Marks.{marked, markByte, counted, Differ}

@@ -5,7 +5,7 @@ mod spread;
 use answer::Done;
 use answer::Refusal;
 ghost use mathlib.Core.Bool.{true};
-ghost use Rattle.strips.specs.Sample.{strip};
+ghost use Rattle.samples.specs.Sample.{strip};
 ghost use Rattle.damage.specs.Passes.{RowFits, RowMarked, StripFits, MarkedInto};
 ghost use Rattle.damage.specs.Promises.{Marked};
 
@@ -78,7 +78,7 @@ pub fn marks(
 ) -> Counted
     ensures { λ r. ⌜ Marked (now (damage .entry)) (strip «row_bytes» channels width) predict (now (marks .entry)) r (now (marks .exit)) ⌝ }
 {
-    match strips::check_strip(damage.len(), row_bytes, channels, width) {
+    match samples::check_strip(damage.len(), row_bytes, channels, width) {
         Done::Refused(k) => Counted::Refused(k),
         Done::Done => {
             let samples = damage.len() / width;

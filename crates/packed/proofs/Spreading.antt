@@ -10,7 +10,7 @@ use lib.Dec.{eqb}
 use Rattle.answer.specs.Outcome.{pick}
 use Rattle.answer.specs.Table.{filled}
 use Rattle.answer.proofs.Filling.{stores-filled}
-use Rattle.strips.specs.Promises.{apart}
+use Rattle.samples.specs.Promises.{apart}
 use Rattle.pixels.specs.Render.{flipped}
 use Rattle.packed.specs.Rows.{bilevelAt, Spread}
 

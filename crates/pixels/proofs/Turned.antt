@@ -12,9 +12,9 @@ use Rattle.answer.specs.Outcome.{Sound, pick}
 use Rattle.words.specs.Word.{Bytes}
 use Rattle.words.specs.Promises.{served}
 use Rattle.swaps.specs.Swapped.{mirror}
-use Rattle.strips.specs.Sample.{wordOf, storedAt}
-use Rattle.strips.specs.Promises.{apart}
-use Rattle.strips.proofs.Orders.{same-order, other-order}
+use Rattle.samples.specs.Sample.{wordOf, storedAt}
+use Rattle.samples.specs.Promises.{apart}
+use Rattle.samples.proofs.Orders.{same-order, other-order}
 use Rattle.layout.specs.declared.RasterLayout.{RasterLayout}
 use Rattle.layout.specs.Layout.{recordFaults, turned}
 use Rattle.layout.proofs.Whole.{record-accepted}

@@ -17,7 +17,7 @@ use Rattle.answer.proofs.Filling.{table-at}
 use Rattle.words.specs.Digits.{digit}
 use Rattle.words.specs.Word.{Bytes}
 use Rattle.words.proofs.Digits.{digit-value, value-same}
-use Rattle.strips.specs.Promises.{apart}
+use Rattle.samples.specs.Promises.{apart}
 use Rattle.layout.specs.declared.RasterLayout.{RasterLayout}
 use Rattle.layout.specs.Layout.{recordFaults, packed, packedIndex, sourceIndex}
 use Rattle.layout.proofs.Says.{Says, up, equal, both, either}

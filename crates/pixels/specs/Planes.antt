@@ -8,7 +8,7 @@ use Rattle.answer.specs.Outcome.{Fault, unless, pick, unsupported, invalid, tru
 use Rattle.answer.specs.Table.{table}
 use Rattle.answer.specs.declared.Done.{Done}
 use Rattle.words.specs.Digits.{digit, value}
-use Rattle.strips.specs.Promises.{apart}
+use Rattle.samples.specs.Promises.{apart}
 use Rattle.layout.specs.declared.RasterLayout.{RasterLayout}
 use Rattle.layout.specs.Layout.{recordFaults, turned}
 use Rattle.pixels.specs.Render.{flipped}

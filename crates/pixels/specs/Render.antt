@@ -11,7 +11,7 @@ use Rattle.answer.specs.Outcome.{Fault, unless, pick, unsupported, truncated, o
 use Rattle.answer.specs.Table.{table}
 use Rattle.answer.specs.declared.Done.{Done}
 use Rattle.words.specs.Word.{wordAt}
-use Rattle.strips.specs.Promises.{apart}
+use Rattle.samples.specs.Promises.{apart}
 use Rattle.layout.specs.declared.RasterLayout.{RasterLayout}
 use Rattle.layout.specs.Layout.{recordFaults, sourceIndex}
 

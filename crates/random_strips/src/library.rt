@@ -155,9 +155,9 @@ fn convert(call: usize, p: &[usize], input: &[u8], out: &mut [u8]) -> Done {
     let predict = on(p, PREDICT);
     let out_le = on(p, OUT_LE);
     if call == CONVERT {
-        samples::convert(input, row, channels, width, le, predict, out_le, out)
+        strips::convert(input, row, channels, width, le, predict, out_le, out)
     } else {
-        samples::forward(input, row, channels, width, le, predict, out_le, out)
+        strips::forward(input, row, channels, width, le, predict, out_le, out)
     }
 }
 
@@ -187,7 +187,7 @@ fn asked(call: usize, p: &[usize], input: &[u8]) -> Answer {
     let place = at(p, PLACE);
     let le = on(p, LE);
     match call {
-        CHECK_STRIP => of_done(strips::check_strip(
+        CHECK_STRIP => of_done(samples::check_strip(
             input.len(),
             at(p, ROW),
             at(p, CHANNELS),
@@ -207,7 +207,7 @@ fn moved(call: usize, p: &[usize], input: &[u8], file: &[u8], out: &mut [u8]) ->
     let width = at(p, WIDTH);
     match call {
         CONVERT | FORWARD => convert(call, p, input, out),
-        REORDER => strips::reorder(input, width, on(p, LE), on(p, OUT_LE), out),
+        REORDER => samples::reorder(input, width, on(p, LE), on(p, OUT_LE), out),
         SWAP => transport::swap_components(input, width, out),
         COMMIT => transport::commit_uninit(input, out),
         REVERSE => reverse(input, out),

@@ -15,8 +15,8 @@ use Rattle.answer.proofs.Promised.{finished}
 use Rattle.answer.proofs.Filling.{part, length-part, part-at, table-same, filled-all}
 use Rattle.words.specs.Word.{Bytes}
 use Rattle.words.specs.Promises.{served}
-use Rattle.strips.specs.Sample.{wordOf, storedAt}
-use Rattle.strips.specs.Promises.{apart, reorderFaults, Reordered}
+use Rattle.samples.specs.Sample.{wordOf, storedAt}
+use Rattle.samples.specs.Promises.{apart, reorderFaults, Reordered}
 use Rattle.layout.specs.declared.RasterLayout.{RasterLayout}
 use Rattle.layout.specs.Layout.{given, byteLimit, planeChannels, planes, planeLength, scratchLength, turned, sourceIndex}
 use Rattle.layout.proofs.Whole.{record-accepted, record-agreed}

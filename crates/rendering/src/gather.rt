@@ -140,6 +140,6 @@ pub(crate) fn gather(l: RasterLayout, raw: &[u8], y: usize, out: &mut [u8])
         known_planes(l, raw, from, out);
     } else {
         let end = from + out.len();
-        strips::reorder(&raw[from..end], l.bytes, l.le, false, out);
+        samples::reorder(&raw[from..end], l.bytes, l.le, false, out);
     }
 }

@@ -9,8 +9,8 @@ use Rattle.answer.specs.Outcome.{Sound}
 use Rattle.answer.proofs.Promised.{sound-here}
 use Rattle.words.specs.Promises.{served}
 use Rattle.swaps.proofs.Mirror.{group-room}
-use Rattle.strips.specs.Promises.{stripFaults}
-use Rattle.strips.proofs.Strips.{good-checked}
+use Rattle.samples.specs.Promises.{stripFaults}
+use Rattle.samples.proofs.Strips.{good-checked}
 use Rattle.rows.specs.Row.{oneRow, RowServed}
 
 pub row-served : (raw : List ℕ) (channels width : ℕ) (out : List ℕ) → Sound (stripFaults (length raw) (oneRow raw channels width)) → length raw ≤ length out → RowServed raw channels width out

@@ -16,11 +16,11 @@ use Rattle.answer.proofs.Filling.{part, length-part, part-filled, length-filled
 use Rattle.words.specs.Digits.{digit}
 use Rattle.words.specs.Word.{turn, Bytes, wordAt, modulus}
 use Rattle.words.proofs.Words.{word-below}
-use Rattle.strips.specs.Sample.{Strip, wordOf, alone, storedAt}
-use Rattle.strips.specs.Promises.{reorderFaults, Reordered}
-use Rattle.strips.proofs.Sums.{sample-alone, difference-alone}
-use Rattle.strips.proofs.Stored.{word-room}
-use Rattle.strips.proofs.Parts.{part-word}
+use Rattle.samples.specs.Sample.{Strip, wordOf, alone, storedAt}
+use Rattle.samples.specs.Promises.{reorderFaults, Reordered}
+use Rattle.samples.proofs.Sums.{sample-alone, difference-alone}
+use Rattle.samples.proofs.Stored.{word-room}
+use Rattle.samples.proofs.Parts.{part-word}
 use Rattle.rows.specs.Row.{oneRow, meant, RowServed, Led, LeadFits, LedInto, undoneAt, predictedAt}
 
 -- what `reorder` does to the front is what `lead` promises of the whole

@@ -18,11 +18,11 @@ use Rattle.words.specs.Word.{turn, wordAt, Put, backwards, modulus, plus, minus
 use Rattle.words.proofs.Digits.{digit-below, digit-value, value-digit}
 use Rattle.words.proofs.Words.{turn-below, digits-word, backwards-digit}
 use Rattle.swaps.proofs.Mirror.{group-room}
-use Rattle.strips.specs.Sample.{Strip, alone, wordOf, sample, difference, storedAt}
-use Rattle.strips.proofs.Sums.{sample-alone, sample-later, difference-later}
-use Rattle.strips.proofs.Stored.{stored-byte}
-use Rattle.strips.proofs.Strips.{groups-words}
-use Rattle.strips.proofs.Undo.{sample-below}
+use Rattle.samples.specs.Sample.{Strip, alone, wordOf, sample, difference, storedAt}
+use Rattle.samples.proofs.Sums.{sample-alone, sample-later, difference-later}
+use Rattle.samples.proofs.Stored.{stored-byte}
+use Rattle.samples.proofs.Strips.{groups-words}
+use Rattle.samples.proofs.Undo.{sample-below}
 use Rattle.rows.specs.Row.{oneRow, RowFits, Led, undoneAt, resumed}
 
 -- a word stored backwards is stored in the other byte order

@@ -12,8 +12,8 @@ use Rattle.answer.specs.Table.{table}
 use Rattle.answer.proofs.Filling.{table-at}
 use Rattle.words.specs.Word.{plus}
 use Rattle.words.proofs.Words.{word-same}
-use Rattle.strips.specs.Sample.{wordOf, sample}
-use Rattle.strips.proofs.Sums.{sample-later}
+use Rattle.samples.specs.Sample.{wordOf, sample}
+use Rattle.samples.proofs.Sums.{sample-later}
 use Rattle.rows.specs.Row.{oneRow, resumed}
 use Rattle.rows.proofs.Loops.{later, carried, carried-first, carried-later, carried-on}
 

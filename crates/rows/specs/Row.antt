@@ -8,10 +8,10 @@ use lib.ListN.{length, take, getD}
 use Rattle.answer.specs.Outcome.{unless, pick, Promise, doneOutcome}
 use Rattle.answer.specs.Table.{table, filled}
 use Rattle.answer.specs.declared.Done.{Done}
-use Rattle.strips.specs.Sample.{wordOf, Strip, strip, sample, difference, storedAt}
+use Rattle.samples.specs.Sample.{wordOf, Strip, strip, sample, difference, storedAt}
 use Rattle.words.specs.Word.{plus}
 use Rattle.words.specs.Promises.{served}
-use Rattle.strips.specs.Promises.{convertFaults}
+use Rattle.samples.specs.Promises.{convertFaults}
 
 -- a row as a strip
 abbrev pub oneRow : List ℕ → ℕ → ℕ → Strip

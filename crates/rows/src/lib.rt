@@ -15,7 +15,7 @@ fn lead(raw: &[u8], step: usize, width: usize, le: bool, out_le: bool, out: &mut
     ensures { λ r. ⌜ LedInto (now (raw .entry)) step width le «out_le» (now (out .entry)) (now (out .exit)) ⌝ }
 {
     let start: usize = 0;
-    strips::reorder(&raw[start..step], width, le, out_le, &mut out[start..step]);
+    samples::reorder(&raw[start..step], width, le, out_le, &mut out[start..step]);
 }
 
 fn undo_words(raw: &[u8], channels: usize, width: usize, le: bool, out_le: bool, out: &mut [u8])
@@ -61,7 +61,7 @@ fn transform_words(
             undo_words(raw, channels, width, le, out_le, out)
         }
     } else {
-        strips::reorder(raw, width, le, out_le, out);
+        samples::reorder(raw, width, le, out_le, out);
     }
 }
 
@@ -78,7 +78,7 @@ pub fn transform_row(
 ) -> Done
     ensures { λ r. ⌜ RowTransformed (now (raw .entry)) channels width predict le «out_le» forward (now (out .entry)) r (now (out .exit)) ⌝ }
 {
-    match strips::check_strip(raw.len(), raw.len(), channels, width) {
+    match samples::check_strip(raw.len(), raw.len(), channels, width) {
         Done::Refused(k) => Done::Refused(k),
         Done::Done => {
             if out.len() < raw.len() {

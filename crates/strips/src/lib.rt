@@ -1,56 +1,118 @@
 use answer::Done;
 use answer::Refusal;
-ghost use mathlib.Core.Path.{_≡_};
-ghost use Rattle.strips.specs.Sample.{strip};
-ghost use Rattle.strips.specs.Promises.{StripChecked, apart, Reordered};
+pub use samples::check_strip;
+ghost use Rattle.samples.specs.Sample.{strip};
+ghost use Rattle.samples.specs.Promises.{Converted, Forwarded};
+ghost use Rattle.rows.specs.Row.{TransformedInto, Transformed};
+ghost use Rattle.strips.specs.Served.{Served};
 
-// Whether a strip of so many bytes has this geometry: whole rows, each of whole groups of a word for each channel.
-pub fn check_strip(raw_len: usize, row_bytes: usize, channels: usize, width: usize) -> Done
-    ensures { λ r. ⌜ StripChecked «raw_len» (strip «row_bytes» channels width) r ⌝ }
+fn transform_rows(
+    raw: &[u8],
+    row_bytes: usize,
+    channels: usize,
+    width: usize,
+    le: bool,
+    predict: bool,
+    out_le: bool,
+    forward: bool,
+    out: &mut [u8],
+)
+    requires { ⌜ Served (now raw) (strip «row_bytes» channels width) (now out) ⌝ }
+    ensures { λ r. ⌜ TransformedInto (now (raw .entry)) (strip «row_bytes» channels width) predict le «out_le» forward (now (out .entry)) (now (out .exit)) ⌝ }
 {
-    if !words::width_served(width) {
-        return Done::Refused(Refusal::Unsupported);
+    let mut at: usize = 0;
+    while at < raw.len() {
+        let end = at + row_bytes;
+        let row = &raw[at..end];
+        let to = &mut out[at..end];
+        rows::transform_row(row, channels, width, le, predict, out_le, forward, to);
+        at = end;
     }
-    if channels == 0 {
-        return Done::Refused(Refusal::Unsupported);
-    }
-    if 64 < channels {
-        return Done::Refused(Refusal::Unsupported);
-    }
-    if row_bytes == 0 {
-        return Done::Refused(Refusal::Unsupported);
-    }
-    if row_bytes % (channels * width) != 0 {
-        return Done::Refused(Refusal::Invalid);
-    }
-    if raw_len % row_bytes != 0 {
-        return Done::Refused(Refusal::Invalid);
-    }
-    Done::Done
 }
 
-fn orders_differ(a: bool, b: bool) -> bool
-    ensures { λ r. ⌜ r ≡ apart a b ⌝ }
+fn checked(
+    raw: &[u8],
+    row_bytes: usize,
+    channels: usize,
+    width: usize,
+    le: bool,
+    predict: bool,
+    out_le: bool,
+    forward: bool,
+    out: &mut [u8],
+) -> Done
+    ensures { λ r. ⌜ Transformed (now (raw .entry)) (strip «row_bytes» channels width) predict le «out_le» forward (now (out .entry)) r (now (out .exit)) ⌝ }
 {
-    if a { !b } else { b }
+    match check_strip(raw.len(), row_bytes, channels, width) {
+        Done::Refused(k) => Done::Refused(k),
+        Done::Done => {
+            if out.len() < raw.len() {
+                return Done::Refused(Refusal::OutputTooSmall);
+            }
+            transform_rows(
+                raw,
+                row_bytes,
+                channels,
+                width,
+                le,
+                predict,
+                out_le,
+                forward,
+                out,
+            );
+            Done::Done
+        }
+    }
 }
 
-// The same words in another byte order, or the same: what conversion is without prediction.
-pub fn reorder(raw: &[u8], width: usize, le: bool, out_le: bool, out: &mut [u8]) -> Done
-    ensures { λ r. ⌜ Reordered (now (raw .entry)) width le «out_le» (now (out .entry)) r (now (out .exit)) ⌝ }
+// The samples of a strip, each stored in the asked byte order.
+pub fn convert(
+    raw: &[u8],
+    row_bytes: usize,
+    channels: usize,
+    width: usize,
+    le: bool,
+    predict: bool,
+    out_le: bool,
+    out: &mut [u8],
+) -> Done
+    ensures { λ r. ⌜ Converted (now (raw .entry)) (strip «row_bytes» channels width) predict le «out_le» (now (out .entry)) r (now (out .exit)) ⌝ }
 {
-    if !words::width_served(width) {
-        return Done::Refused(Refusal::Unsupported);
-    }
-    if raw.len() % width != 0 {
-        return Done::Refused(Refusal::Invalid);
-    }
-    if out.len() < raw.len() {
-        return Done::Refused(Refusal::OutputTooSmall);
-    }
-    if orders_differ(le, out_le) {
-        transport::swap_components(raw, width, out)
-    } else {
-        transport::commit_uninit(raw, out)
-    }
+    checked(
+        raw,
+        row_bytes,
+        channels,
+        width,
+        le,
+        predict,
+        out_le,
+        false,
+        out,
+    )
+}
+
+// Forward prediction: the words that `convert` reads back to these samples.
+pub fn forward(
+    raw: &[u8],
+    row_bytes: usize,
+    channels: usize,
+    width: usize,
+    le: bool,
+    predict: bool,
+    out_le: bool,
+    out: &mut [u8],
+) -> Done
+    ensures { λ r. ⌜ Forwarded (now (raw .entry)) (strip «row_bytes» channels width) predict le «out_le» (now (out .entry)) r (now (out .exit)) ⌝ }
+{
+    checked(
+        raw,
+        row_bytes,
+        channels,
+        width,
+        le,
+        predict,
+        out_le,
+        true,
+        out,
+    )
 }

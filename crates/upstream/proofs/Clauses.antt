@@ -22,10 +22,10 @@ use Rattle.words.specs.declared.Loaded.the-variants as Loaded-is
 use Rattle.words.proofs.Words.{word-below, word-one}
 use Rattle.swaps.specs.Swapped.{swappedAt, swapFaults, Swapped}
 use Rattle.transport.specs.Moved.{commitFaults, Committed, Turned}
-use Rattle.strips.specs.Sample.{Strip, storedAt}
-use Rattle.strips.specs.Sample as Strips
-use Rattle.strips.specs.Promises.{stripFaults, convertFaults, Converted}
-use Rattle.strips.proofs.Strips.{good-checked, width-fits}
+use Rattle.samples.specs.Sample.{Strip, storedAt}
+use Rattle.samples.specs.Sample as Strips
+use Rattle.samples.specs.Promises.{stripFaults, convertFaults, Converted}
+use Rattle.samples.proofs.Strips.{good-checked, width-fits}
 use Rattle.layout.proofs.Says.{held}
 use Rattle.upstream.specs.Native.{digit, widthOk, RangeOk, modulus, word, converted, Valid, reversed, value}
 use Rattle.upstream.specs.Clause.{Ok, Exactly}

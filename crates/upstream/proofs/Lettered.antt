@@ -8,7 +8,7 @@ use lib.ListN.{length, getD}
 use Rattle.answer.specs.Table.{table}
 use Rattle.swaps.specs.Swapped.{swappedAt}
 use Rattle.transport.specs.Moved.{reversed}
-use Rattle.strips.specs.Sample.{Strip, strip, sample, difference, storedAt}
+use Rattle.samples.specs.Sample.{Strip, strip, sample, difference, storedAt}
 use Rattle.damage.specs.Marks.{struckAt, marked, markByte, counted}
 use Rattle.layout.specs.declared.RasterLayout.{RasterLayout}
 use Rattle.layout.specs.Layout.{fields, completed, encodedWidth, planeChannels, planes, planeLength, scratchLength, outputLength, colours, turned, packedIndex, plainIndex}

@@ -19,8 +19,8 @@ use Rattle.words.specs.Promises.{served}
 use Rattle.words.proofs.Words.{word-one}
 use Rattle.words.proofs.Served.{OneOf, served-one}
 use Rattle.transport.specs.Moved as Moved
-use Rattle.strips.specs.Sample as Strips
-use Rattle.strips.specs.Sample.{Strip, alone, summed, wordOf, storedAt}
+use Rattle.samples.specs.Sample as Strips
+use Rattle.samples.specs.Sample.{Strip, alone, summed, wordOf, storedAt}
 use Rattle.layout.specs.declared.RasterLayout.{RasterLayout}
 use Rattle.layout.specs.Layout as Ours
 use Rattle.layout.specs.Valid.{Valid as LayoutValid, Within}
@@ -28,8 +28,8 @@ use Rattle.layout.proofs.Says.{held}
 use Rattle.layout.proofs.Theorems.{record-valid, valid-accepted, answered-sound}
 use Rattle.pixels.specs.Render as Render
 use Rattle.pixels.specs.Render.{straightened, plainByte}
-use Rattle.strips.specs.Promises.{apart, stripFaults}
-use Rattle.strips.proofs.Strips.{good-checked}
+use Rattle.samples.specs.Promises.{apart, stripFaults}
+use Rattle.samples.proofs.Strips.{good-checked}
 use Rattle.upstream.specs.Clause.{Exactly}
 use Rattle.upstream.specs.Native.{word16, word32, digit, widthOk, modulus, word, first, sampleWithin, sample, converted, reversed, Valid}
 use Rattle.upstream.specs.Layout as Layout

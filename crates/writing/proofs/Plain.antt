@@ -13,8 +13,8 @@ use Rattle.answer.specs.declared.Done.{Done}
 use Rattle.answer.proofs.Promised.{finished}
 use Rattle.answer.proofs.Filling.{table-at, table-same, table-self, length-table, filled-all}
 use Rattle.words.specs.Word.{Bytes}
-use Rattle.strips.specs.Sample.{wordOf, storedAt}
-use Rattle.strips.specs.Promises.{reorderFaults, Reordered}
+use Rattle.samples.specs.Sample.{wordOf, storedAt}
+use Rattle.samples.specs.Promises.{reorderFaults, Reordered}
 use Rattle.layout.specs.declared.RasterLayout.{RasterLayout}
 use Rattle.layout.specs.Layout.{turned}
 use Rattle.pixels.specs.Render.{flipped}

@@ -22,7 +22,7 @@ fn plain_row(l: RasterLayout, row: &[u8], out: &mut [u8])
     requires { ⌜ PlainFits l (now row) (now out) ⌝ }
     ensures { λ r. ⌜ PlainRow l (now (row .entry)) (now (out .entry)) (now (out .exit)) ⌝ }
 {
-    strips::reorder(row, l.bytes, false, l.le, out);
+    samples::reorder(row, l.bytes, false, l.le, out);
     turn_over(l, out);
 }
 

@@ -3,7 +3,7 @@ use borrow.Author.Needs.{needs}
 use native.Mathlib.Omega.{arith}
 use Prim.Native.Nat.{_-_}
 use lib.ListN.{length}
-use Rattle.strips.specs.Sample.{strip}
+use Rattle.samples.specs.Sample.{strip}
 use Rattle.damage.proofs.Rowwise.{Rowwise, rowwise-none, strip-wide, row-some, row-room, marks-room, row-fits, row-turned, count-room, rows-ended}
 use Rattle.damage.proofs.mark_rows.Statement.{statement}
 use Rattle.damage.proofs.mark_rows.Tie as tie

@@ -6,9 +6,9 @@ use lib.ListN.{length}
 use denote.Ref.{now}
 use Rattle.answer.specs.Outcome.{here, next, none, Sound}
 use Rattle.answer.proofs.Promised.{passed, stopped, refuses, first-more, sound-then, sound-more}
-use Rattle.strips.specs.Sample.{strip}
-use Rattle.strips.specs.Promises.{stripFaults}
-use Rattle.strips.proofs.Strips.{good-checked}
+use Rattle.samples.specs.Sample.{strip}
+use Rattle.samples.specs.Promises.{stripFaults}
+use Rattle.samples.proofs.Strips.{good-checked}
 use Rattle.damage.specs.Promises.{samplesOf, markFaults}
 use Rattle.damage.proofs.Promised.{front-fits, exactly, marks-done}
 use Rattle.damage.proofs.marks.Statement.{statement}

@@ -6,8 +6,8 @@ use lib.ListN.{length}
 use denote.Ref.{now}
 use Rattle.answer.specs.Outcome.{here, next, none, Sound}
 use Rattle.answer.proofs.Promised.{passed, stopped, refuses, finishes, first-more, sound-then, sound-more}
-use Rattle.strips.specs.Sample.{storedAt}
-use Rattle.strips.specs.Promises.{stripFaults, convertFaults}
+use Rattle.samples.specs.Sample.{storedAt}
+use Rattle.samples.specs.Promises.{stripFaults, convertFaults}
 use Rattle.rows.specs.Row.{oneRow, meant}
 use Rattle.rows.proofs.Checked.{row-served}
 use Rattle.rows.proofs.transform_row.Statement.{statement}

@@ -10,9 +10,9 @@ use denote.Ref.{now}
 use Rattle.answer.specs.Outcome.{next, none}
 use Rattle.answer.proofs.Promised.{finished}
 use Rattle.words.specs.Word.{Bytes}
-use Rattle.strips.specs.Sample.{wordOf, storedAt}
-use Rattle.strips.specs.Promises.{reorderFaults}
-use Rattle.strips.proofs.Strips.{groups-words}
+use Rattle.samples.specs.Sample.{wordOf, storedAt}
+use Rattle.samples.specs.Promises.{reorderFaults}
+use Rattle.samples.proofs.Strips.{groups-words}
 use Rattle.rows.specs.Row.{oneRow}
 use Rattle.rows.proofs.Leading.{unpredicted}
 use Rattle.rows.proofs.transform_words.Statement.{statement}

@@ -7,7 +7,7 @@ use mathlib.Core.Path.{ap, _∙_}
 use lib.ListN.{length}
 use denote.Ref.{now}
 use Rattle.words.specs.Word.{wordAt, minus}
-use Rattle.strips.specs.Sample.{difference}
+use Rattle.samples.specs.Sample.{difference}
 use Rattle.rows.specs.Row.{oneRow}
 use Rattle.rows.proofs.Loops.{Upto, led-upto, trail-room, difference-turned, ended}
 use Rattle.rows.proofs.differences.differences_of.Statement.{statement}

@@ -7,7 +7,7 @@ use mathlib.Core.Path.{ap, _∙_}
 use lib.ListN.{length}
 use denote.Ref.{now}
 use Rattle.words.specs.Word.{wordAt, plus}
-use Rattle.strips.specs.Sample.{sample}
+use Rattle.samples.specs.Sample.{sample}
 use Rattle.rows.specs.Row.{oneRow}
 use Rattle.rows.proofs.Loops.{Upto, led-upto, trail-room, trail-turned, ended}
 use Rattle.rows.proofs.trails.trails_of.Statement.{statement}

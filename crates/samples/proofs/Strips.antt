@@ -11,8 +11,8 @@ use Rattle.words.specs.Promises.{served}
 use Rattle.words.proofs.Served.{served-some}
 use native.Mathlib.Nat.{mod-self, zero-mod, dvd-of-mod-eq-zero, mod-eq-zero-of-dvd, dvd-trans, dvd-mul-left, div-mul-cancel}
 use Rattle.swaps.proofs.Mirror.{group-room}
-use Rattle.strips.specs.Sample.{Strip, strip, Good}
-use Rattle.strips.specs.Promises.{stripFaults}
+use Rattle.samples.specs.Sample.{Strip, strip, Good}
+use Rattle.samples.specs.Promises.{stripFaults}
 
 -- whole groups are whole words
 pub groups-words : (n channels width : ℕ) → n % (channels * width) ≡ 0 → n % width ≡ 0

@@ -10,8 +10,8 @@ use Rattle.words.specs.Digits.{digit}
 use Rattle.words.specs.Word.{turn, Bytes, wordAt}
 use Rattle.words.proofs.Words.{word-digit}
 use Rattle.swaps.specs.Swapped.{swappedAt}
-use Rattle.strips.specs.Sample.{wordOf, storedAt}
-use Rattle.strips.specs.Promises.{apart}
+use Rattle.samples.specs.Sample.{wordOf, storedAt}
+use Rattle.samples.specs.Promises.{apart}
 
 module _ (raw : List ℕ) (b : Bytes raw) (width : ℕ) (some : 0 < width) (k : ℕ) where
   own : (le : Bool) → storedAt width le (wordOf width le raw) k ≡ getD raw k 0

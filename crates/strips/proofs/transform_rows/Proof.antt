@@ -1,12 +1,12 @@
--- `samples::transform_rows` meets its contract: the invariant and its laws are in proofs/Rowwise.antt. Assumes nothing.
+-- `strips::transform_rows` meets its contract: the invariant and its laws are in proofs/Rowwise.antt. Assumes nothing.
 use borrow.Author.Needs.{needs}
 use native.Mathlib.Omega.{arith}
 use Prim.Native.Nat.{_-_}
 use lib.ListN.{length}
-use Rattle.strips.specs.Sample.{strip}
-use Rattle.samples.proofs.Rowwise.{Rowwise, rowwise-none, row-some, row-room, row-turned, rows-ended}
-use Rattle.samples.proofs.transform_rows.Statement.{statement}
-use Rattle.samples.proofs.transform_rows.Tie as tie
+use Rattle.samples.specs.Sample.{strip}
+use Rattle.strips.proofs.Rowwise.{Rowwise, rowwise-none, row-some, row-room, row-turned, rows-ended}
+use Rattle.strips.proofs.transform_rows.Statement.{statement}
+use Rattle.strips.proofs.transform_rows.Tie as tie
 
 abbrev Inv-loop : tie.InvT-loop
 Inv-loop raw row-bytes channels width le predict out-le forward out₀ at₀ out at = Rowwise raw (strip row-bytes channels width) predict le out-le forward out₀ at out

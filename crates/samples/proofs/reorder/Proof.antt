@@ -1,4 +1,4 @@
--- `strips::reorder` meets its promise: in one order a copy, in the other each word's bytes backwards. Assumes nothing.
+-- `samples::reorder` meets its promise: in one order a copy, in the other each word's bytes backwards. Assumes nothing.
 use borrow.Author.Needs.{needs}
 use borrow.Author.Tests.{eq-eqb, ne-eqb, lt-ltb, le-ltb, not-true, not-false}
 use mathlib.Core.Path.{_≡_, ap, _∙_, sym}
@@ -14,10 +14,10 @@ use Rattle.words.specs.Promises.{served}
 use Rattle.words.proofs.Served.{served-some}
 use Rattle.swaps.specs.Swapped.{swapFaults}
 use Rattle.transport.specs.Moved.{commitFaults}
-use Rattle.strips.specs.Promises.{reorderFaults}
-use Rattle.strips.proofs.Orders.{same-order, other-order}
-use Rattle.strips.proofs.reorder.Statement.{statement}
-use Rattle.strips.proofs.reorder.Tie as tie
+use Rattle.samples.specs.Promises.{reorderFaults}
+use Rattle.samples.proofs.Orders.{same-order, other-order}
+use Rattle.samples.proofs.reorder.Statement.{statement}
+use Rattle.samples.proofs.reorder.Tie as tie
 
 width-served-requires : tie.Need-width-served-requires
 width-served-requires c κs = search needs

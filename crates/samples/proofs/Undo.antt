@@ -13,11 +13,11 @@ use Rattle.answer.specs.declared.Done.the-variants as Done-is
 use Rattle.answer.proofs.Promised.{in-turn, done-sound, sound-front}
 use Rattle.words.specs.Word.{Bytes, modulus}
 use Rattle.words.proofs.Words.{modulus-pos, word-below, plus-below, minus-below, plus-minus, minus-plus}
-use Rattle.strips.specs.Sample.{Strip, Good, alone, wordOf, sample, difference, storedAt}
-use Rattle.strips.specs.Promises.{stripFaults, convertFaults, Converted, Forwarded}
-use Rattle.strips.proofs.Sums.{not-alone, sample-alone, sample-later, difference-alone, difference-later}
-use Rattle.strips.proofs.Stored.{stored-word, stored-same, stored-self}
-use Rattle.strips.proofs.Strips.{bytes-words, good-checked}
+use Rattle.samples.specs.Sample.{Strip, Good, alone, wordOf, sample, difference, storedAt}
+use Rattle.samples.specs.Promises.{stripFaults, convertFaults, Converted, Forwarded}
+use Rattle.samples.proofs.Sums.{not-alone, sample-alone, sample-later, difference-alone, difference-later}
+use Rattle.samples.proofs.Stored.{stored-word, stored-same, stored-self}
+use Rattle.samples.proofs.Strips.{bytes-words, good-checked}
 
 pub sample-below : (g : Strip) (predict le : Bool) (raw : List ℕ) → 0 < g .channels → (n : ℕ) → sample g predict le raw n < modulus (g .width)
 sample-below g predict le raw some n = by (alone g predict n) refl

@@ -1,4 +1,4 @@
--- `strips::check_strip` meets its promise: the tests are document 01's faults, in its order. Assumes nothing.
+-- `samples::check_strip` meets its promise: the tests are document 01's faults, in its order. Assumes nothing.
 use borrow.Author.Needs.{needs}
 use borrow.Author.Tests.{eq-eqb, ne-eqb, lt-ltb, le-ltb, not-true, not-false}
 use mathlib.Core.Path.{_≡_, ap, _∙_, sym}
@@ -10,10 +10,10 @@ use Rattle.answer.specs.Outcome.{here, later, next, none}
 use Rattle.answer.proofs.Promised.{refusing, finishing}
 use Rattle.words.specs.Promises.{served}
 use Rattle.words.proofs.Served.{served-some}
-use Rattle.strips.specs.Sample.{strip}
-use Rattle.strips.specs.Promises.{stripFaults}
-use Rattle.strips.proofs.check_strip.Statement.{statement}
-use Rattle.strips.proofs.check_strip.Tie as tie
+use Rattle.samples.specs.Sample.{strip}
+use Rattle.samples.specs.Promises.{stripFaults}
+use Rattle.samples.proofs.check_strip.Statement.{statement}
+use Rattle.samples.proofs.check_strip.Tie as tie
 
 width-served-requires : tie.Need-width-served-requires
 width-served-requires c κs = search needs

@@ -9,7 +9,7 @@ use Rattle.answer.specs.Outcome.{Fault, unless, unsupported, invalid, outputToo
 use Rattle.answer.specs.Table.{table}
 use Rattle.answer.specs.declared.Done.{Done}
 use Rattle.words.specs.Promises.{served}
-use Rattle.strips.specs.Sample.{Strip, wordOf, sample, difference, storedAt}
+use Rattle.samples.specs.Sample.{Strip, wordOf, sample, difference, storedAt}
 
 -- the faults of a strip's geometry
 abbrev pub stripFaults : ℕ → Strip → List Fault

@@ -13,12 +13,12 @@ use Rattle.answer.specs.declared.Done.{Done}
 use Rattle.answer.proofs.Promised.{finished, sound-more}
 use Rattle.answer.proofs.Filling.{part, length-part, part-filled, length-filled, filled-all, table-same}
 use Rattle.swaps.proofs.Mirror.{group-room}
-use Rattle.strips.specs.Sample.{Strip, strip, storedAt}
-use Rattle.strips.specs.Promises.{convertFaults}
-use Rattle.strips.proofs.Strips.{good-checked, row-checked}
-use Rattle.strips.proofs.Parts.{part-samples, part-differences}
+use Rattle.samples.specs.Sample.{Strip, strip, storedAt}
+use Rattle.samples.specs.Promises.{convertFaults}
+use Rattle.samples.proofs.Strips.{good-checked, row-checked}
+use Rattle.samples.proofs.Parts.{part-samples, part-differences}
 use Rattle.rows.specs.Row.{oneRow, meant, TransformedInto, RowTransformed}
-use Rattle.samples.specs.Served.{Served}
+use Rattle.strips.specs.Served.{Served}
 
 pub record Rowwise (raw : List ℕ) (g : Strip) (predict le out-le forward : Bool) (old : List ℕ) (at : ℕ) (out : List ℕ) : Type 0 where
   pub inside : at ≤ length raw

@@ -11,9 +11,9 @@ use lib.ListN.{getD}
 use Rattle.words.specs.Word.{modulus}
 use Rattle.words.proofs.Words.{word-same}
 use Rattle.swaps.proofs.Mirror.{into-group}
-use Rattle.strips.specs.Sample.{Strip, Good, alone, wordOf, sample, difference}
-use Rattle.strips.proofs.Sums.{in-row, sample-alone, sample-later, difference-alone, difference-later}
-use Rattle.strips.proofs.Strips.{per-row, width-fits}
+use Rattle.samples.specs.Sample.{Strip, Good, alone, wordOf, sample, difference}
+use Rattle.samples.proofs.Sums.{in-row, sample-alone, sample-later, difference-alone, difference-later}
+use Rattle.samples.proofs.Strips.{per-row, width-fits}
 
 -- two rows: i and j are where they begin, counted in samples
 module _ (g : Strip) (some : 0 < g .channels) (predict le : Bool) (s t : List ℕ) (i j : ℕ) (hi : i % (g .row / g .width) ≡ 0) (hj : j % (g .row / g .width) ≡ 0) (words : (m : ℕ) → m < g .row / g .width → wordOf (g .width) le s (i + m) ≡ wordOf (g .width) le t (j + m)) where

@@ -9,9 +9,9 @@ use lib.ListN.{length, getD}
 use Rattle.answer.proofs.Filling.{part, length-part, part-at}
 use Rattle.words.specs.Word.{wordAt}
 use Rattle.words.proofs.Words.{word-same}
-use Rattle.strips.specs.Sample.{Strip, strip, Good, wordOf, sample, difference, storedAt}
-use Rattle.strips.proofs.Strips.{row-words, per-row}
-use Rattle.strips.proofs.Rows.{same-samples, same-differences}
+use Rattle.samples.specs.Sample.{Strip, strip, Good, wordOf, sample, difference, storedAt}
+use Rattle.samples.proofs.Strips.{row-words, per-row}
+use Rattle.samples.proofs.Rows.{same-samples, same-differences}
 
 pub part-word : (raw : List ℕ) (a e at width : ℕ) (le : Bool) → at + width ≤ e - a → wordAt (part a e raw) at width le ≡ wordAt raw (a + at) width le
 part-word raw a e at width le room =

@@ -14,7 +14,7 @@ use Rattle.words.specs.Digits.{digit}
 use Rattle.words.specs.Word.{turn, Bytes, wordAt, modulus}
 use Rattle.words.proofs.Words.{word-digit, digits-word}
 use Rattle.swaps.proofs.Mirror.{group-room}
-use Rattle.strips.specs.Sample.{storedAt}
+use Rattle.samples.specs.Sample.{storedAt}
 
 -- byte p of word n
 pub stored-byte : (width : ℕ) (le : Bool) (v : ℕ → ℕ) (n p : ℕ) → p < width → storedAt width le v (n * width + p) ≡ digit 256 (turn le width p) (v n)

@@ -1,4 +1,4 @@
--- `samples::checked` meets its promise: the strip check's faults first, then the room. Assumes nothing.
+-- `strips::checked` meets its promise: the strip check's faults first, then the room. Assumes nothing.
 use borrow.Author.Needs.{needs}
 use borrow.Author.Tests.{lt-ltb, le-ltb}
 use native.Mathlib.Omega.{arith}
@@ -6,11 +6,11 @@ use lib.ListN.{length}
 use denote.Ref.{now}
 use Rattle.answer.specs.Outcome.{here, next, none, Sound}
 use Rattle.answer.proofs.Promised.{passed, stopped, refuses, finishes, first-more, sound-then, sound-more}
-use Rattle.strips.specs.Sample.{strip, storedAt}
-use Rattle.strips.specs.Promises.{stripFaults, convertFaults}
+use Rattle.samples.specs.Sample.{strip, storedAt}
+use Rattle.samples.specs.Promises.{stripFaults, convertFaults}
 use Rattle.rows.specs.Row.{meant}
-use Rattle.samples.proofs.checked.Statement.{statement}
-use Rattle.samples.proofs.checked.Tie as tie
+use Rattle.strips.proofs.checked.Statement.{statement}
+use Rattle.strips.proofs.checked.Tie as tie
 
 check-strip-requires : tie.Need-check-strip-requires
 check-strip-requires c κs = search needs

@@ -10,7 +10,7 @@ use borrow.Author.Tests.{ltb-false}
 use lib.Dec.{ltb}
 use Rattle.answer.specs.Outcome.{pick}
 use Rattle.words.specs.Word.{modulus, plus, minus}
-use Rattle.strips.specs.Sample.{Strip, alone, summed, wordOf, sample, difference}
+use Rattle.samples.specs.Sample.{Strip, alone, summed, wordOf, sample, difference}
 
 pub neither : (a b : Bool) → (a || b) ≡ false → (a ≡ false) × (b ≡ false)
 neither true b e = absurd (let z : _≡_ {A = ℕ} 0 1 = cc in omega arith)
