@@ -38,8 +38,8 @@ pub spares : {A : Type 0} {o : Outcome A} {w old : List ℕ} (a : A) (new : List
 spares {A} {o} {w} {old} a new p = rw (by-answer (done a) new p) (drop-append-seam w (drop (length w) old))
 
 -- two calls, the second over what the first wrote: what the second writes
-pub in-turn : {A B : Type 0} {o : Outcome A} {q : Outcome B} (n : ℕ) (f : ℕ → ℕ) (then : List ℕ → ℕ → ℕ) (old x old′ y : List ℕ) (a : A) (b : B) → Promise o (table n f) old (done a) x → Promise q (table (length (take n x)) (then (take n x))) old′ (done b) y → take n y ≡ table n (then (table n f))
-in-turn n f then old x old′ y a b first second =
+pub second-over-first : {A B : Type 0} {o : Outcome A} {q : Outcome B} (n : ℕ) (f : ℕ → ℕ) (then : List ℕ → ℕ → ℕ) (old x old′ y : List ℕ) (a : A) (b : B) → Promise o (table n f) old (done a) x → Promise q (table (length (take n x)) (then (take n x))) old′ (done b) y → take n y ≡ table n (then (table n f))
+second-over-first n f then old x old′ y a b first second =
     let wrote : take n x ≡ table n f = rw (length-table n f) at (writes a x first) in
     rw (wrote, length-table n f, length-table n (then (table n f))) at (writes b y second)
 

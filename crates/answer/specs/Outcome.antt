@@ -3,7 +3,7 @@
 use Prim.{Unit}
 use Prim.Native.Nat.{ℕ}
 use mathlib.Core.Path.{_≡_}
-use mathlib.Core.Bool.{Bool, true, false}
+use mathlib.Core.Bool.{Bool, true, false, not}
 use mathlib.Core.List.{List, [], _∷_, _++_}
 use lib.ListN.{length, drop}
 use Rattle.answer.specs.declared.Refusal.{Refusal}
@@ -47,6 +47,11 @@ limit t = record { found = t; kind = 5 }
 abbrev pub pick : {A : Type 0} → Bool → A → A → A
 pick true a b = a
 pick false a b = b
+
+-- one of the two, and not both
+abbrev pub xor : Bool → Bool → Bool
+xor true b = not b
+xor false b = b
 
 -- the first fault that is found decides; with none, the work is done
 abbrev pub unless : {A : Type 0} → List Fault → A → Outcome A

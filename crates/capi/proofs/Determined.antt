@@ -15,7 +15,7 @@ use Rattle.damage.specs.Promises.{Marked, countedOutcome}
 use Rattle.damage.proofs.Determined.{marks-determined}
 use Rattle.swaps.specs.Swapped.{Swapped}
 use Rattle.swaps.proofs.Determined.{swap-components-determined}
-use Rattle.transport.specs.Moved.{Committed, Turned}
+use Rattle.transport.specs.Moved.{Committed, Reversed}
 use Rattle.transport.proofs.Determined.{commit-uninit-determined, reverse-bits-determined}
 use Rattle.layout.specs.declared.Fields.{Fields}
 use Rattle.layout.specs.Layout.{completed, LayoutChecked, Indexed, placeOutcome}
@@ -82,5 +82,5 @@ module _ (r s : ℕ) where
     pub hamrisk-write-planes-determined : (picture old x y : List ℕ) → Told doneOutcome (λ d. Written (completed f) picture old d x) r → Told doneOutcome (λ d. Written (completed f) picture old d y) s → (r ≡ s) × (x ≡ y)
     hamrisk-write-planes-determined picture old x y = told-once (λ a b. write-planes-determined (completed f) picture old a b x y)
 
-pub hamrisk-reverse-bits-determined : (old x y : List ℕ) → Turned old x → Turned old y → x ≡ y
+pub hamrisk-reverse-bits-determined : (old x y : List ℕ) → Reversed old x → Reversed old y → x ≡ y
 hamrisk-reverse-bits-determined = reverse-bits-determined

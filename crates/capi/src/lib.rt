@@ -16,7 +16,7 @@ ghost use Rattle.samples.specs.Sample.{strip};
 ghost use Rattle.samples.specs.Promises.{StripChecked, Converted, Forwarded};
 ghost use Rattle.damage.specs.Promises.{Marked, countedOutcome};
 ghost use Rattle.swaps.specs.Swapped.{Swapped};
-ghost use Rattle.transport.specs.Moved.{Committed, Turned};
+ghost use Rattle.transport.specs.Moved.{Committed, Reversed};
 ghost use Rattle.capi.specs.Told.{status as statusOf, Told, Lent};
 
 // 0 for done, or document 01's number of the refusal.
@@ -73,7 +73,7 @@ pub extern "C" fn hamrisk_check_strip(
 ) -> u32
     ensures { λ r. ⌜ Told doneOutcome (StripChecked «raw_len» (strip «row_bytes» channels width)) r ⌝ }
 {
-    status(strips::check_strip(raw_len, row_bytes, channels, width))
+    status(samples::check_strip(raw_len, row_bytes, channels, width))
 }
 
 // The samples of a strip, each stored in the asked byte order.
@@ -135,7 +135,7 @@ pub extern "C" fn hamrisk_marks(
 // Every byte's bits reversed, in place.
 #[no_mangle]
 pub extern "C" fn hamrisk_reverse_bits(s: &mut [u8])
-    ensures { λ r. ⌜ Turned (now (s .entry)) (now (s .exit)) ⌝ }
+    ensures { λ r. ⌜ Reversed (now (s .entry)) (now (s .exit)) ⌝ }
 {
     transport::reverse_bits(s)
 }
@@ -145,7 +145,7 @@ pub extern "C" fn hamrisk_reverse_bits(s: &mut [u8])
 pub extern "C" fn hamrisk_swap_components(raw: &[u8], width: usize, out: &mut [u8]) -> u32
     ensures { λ r. ⌜ Told doneOutcome (λ d. Swapped (now (raw .entry)) width (now (out .entry)) d (now (out .exit))) r ⌝ }
 {
-    status(transport::swap_components(raw, width, out))
+    status(swaps::swap_components(raw, width, out))
 }
 
 // A copy at the front of `out`.

@@ -39,6 +39,6 @@ pub extern "C" fn hamrisk_render(
         map,
     ) {
         Checked::Refused(kind) => answer::number(kind),
-        Checked::Done(l) => status(picture::render(l, file, raw, out)),
+        Checked::Done(l) => status(rendering::render(l, file, raw, out)),
     }
 }

@@ -38,6 +38,6 @@ pub extern "C" fn hamrisk_write_planes(
         map,
     ) {
         Checked::Refused(kind) => answer::number(kind),
-        Checked::Done(l) => status(picture::write_planes(l, picture, planes)),
+        Checked::Done(l) => status(writing::write_planes(l, picture, planes)),
     }
 }

@@ -11,7 +11,7 @@ pub fn check_strip(line: &[u8]) -> bool {
     let row = text::size(token(line, 2));
     let channels = text::size(token(line, 3));
     let width = text::size(token(line, 4));
-    outcome(strips::check_strip(bytes, row, channels, width)) == text::number(token(line, 6))
+    outcome(samples::check_strip(bytes, row, channels, width)) == text::number(token(line, 6))
 }
 
 // convert BYTES ROW CHANNELS WIDTH le|be predicted|plain le|be ROOM = NUMBER WRITTEN, and forward likewise

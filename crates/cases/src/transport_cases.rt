@@ -11,7 +11,7 @@ pub fn swap_components(line: &[u8]) -> bool {
     let n = text::bytes(token(line, 1), &mut raw);
     let mut out = [170u8; 64];
     let room = text::size(token(line, 3));
-    let got = outcome(transport::swap_components(
+    let got = outcome(swaps::swap_components(
         front(&raw, n),
         text::size(token(line, 2)),
         front_mut(&mut out, room),

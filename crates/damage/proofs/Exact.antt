@@ -14,7 +14,7 @@ use lib.ListN.{length, getD}
 use Rattle.answer.specs.Table.{table}
 use Rattle.answer.proofs.Filling.{length-table, table-at}
 use Rattle.words.specs.Digits.{digit}
-use Rattle.words.specs.Word.{turn, Bytes, modulus, plus, minus}
+use Rattle.words.specs.Word.{ordered, Bytes, modulus, plus, minus}
 use Rattle.words.proofs.Words.{word-below, word-digit, word-same, plus-minus}
 use Rattle.samples.specs.Sample.{Strip, alone, wordOf, sample}
 use Rattle.samples.proofs.Sums.{neither, not-alone, sample-alone, sample-later}
@@ -111,7 +111,7 @@ module _ (g : Strip) (some : 0 < g .channels) (predict le : Bool) (damage : List
   words-differ : (n p : ℕ) → p < g .width → There g damage n → wordOf (g .width) le zeros n ≡ wordOf (g .width) le (oneAt (n * g .width + p)) n → ⊥
   words-differ n p h room e =
       let k = n * g .width + p in
-      let digits = sym (word-digit zeros (n * g .width) (g .width) le zeros-bytes p h) ∙ ap (digit 256 (turn le (g .width) p)) e ∙ word-digit (oneAt k) (n * g .width) (g .width) le (one-bytes k) p h in
+      let digits = sym (word-digit zeros (n * g .width) (g .width) le zeros-bytes p h) ∙ ap (digit 256 (ordered le (g .width) p)) e ∙ word-digit (oneAt k) (n * g .width) (g .width) le (one-bytes k) p h in
       omega (arith, digits, zeros-at k (omega arith), one-there k (omega arith))
 
   words-same : (n k : ℕ) → k < n * g .width → There g damage n → wordOf (g .width) le zeros n ≡ wordOf (g .width) le (oneAt k) n

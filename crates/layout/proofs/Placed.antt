@@ -8,7 +8,7 @@ use native.Mathlib.Omega.{arith}
 use lib.Dec.{eqb}
 use Rattle.answer.specs.Outcome.{Sound}
 use Rattle.layout.specs.declared.RasterLayout.{RasterLayout}
-use Rattle.layout.specs.Layout.{given, byteLimit, encodedWidth, planeChannels, planes, planeLength, scratchLength, outputLength, recordFaults, packed, packedIndex, turned, plainIndex, sourceIndex}
+use Rattle.layout.specs.Layout.{given, byteLimit, encodedWidth, planeChannels, planes, planeLength, scratchLength, outputLength, recordFaults, packed, packedIndex, highFirst, plainIndex, sourceIndex}
 use Rattle.layout.proofs.Says.{Says, clash, refuted, up, equal, both, either}
 use Rattle.layout.proofs.Accepted.{Accepted, up-to-eight, bilevel}
 use Rattle.layout.proofs.Sizes.{scratch-within}
@@ -84,11 +84,11 @@ module _ (l : RasterLayout) (s : Sound (recordFaults l)) where
   row-is e = rw (plain-one e .1, div-one) at (record-agreed l s .0 .0 .0 .0 .0 .0) ∙ omega (arith, shown .wide)
 
   -- the bytes of a word change places within the pixel
-  pub turned-within : (c : ℕ) → c < l .ch * l .bytes → turned (l .bytes) (l .le) c < l .ch * l .bytes
-  unfolding turned
-  turned-within c h = by (eqb (l .bytes) 2 && l .le) refl
+  pub high-first-within : (c : ℕ) → c < l .ch * l .bytes → highFirst (l .bytes) (l .le) c < l .ch * l .bytes
+  unfolding highFirst
+  high-first-within c h = by (eqb (l .bytes) 2 && l .le) refl
     where
-      by : (b : Bool) → (eqb (l .bytes) 2 && l .le) ≡ b → turned (l .bytes) (l .le) c < l .ch * l .bytes
+      by : (b : Bool) → (eqb (l .bytes) 2 && l .le) ≡ b → highFirst (l .bytes) (l .le) c < l .ch * l .bytes
       by true e = let two : l .bytes ≡ 2 = both (equal (l .bytes) 2) (up (l .le)) .tells e .0 in let short = rw two at h in rw (e, two) (omega arith)
       by false e = rw e h
 
@@ -96,10 +96,10 @@ module _ (l : RasterLayout) (s : Sound (recordFaults l)) where
     pixel-within : k / (l .ch * l .bytes) < l .w * l .h
     pixel-within = div-lt-iff-lt-mul stride-some .1 (omega (arith, output-is))
 
-    byte-within : turned (l .bytes) (l .le) (k % (l .ch * l .bytes)) < l .ch * l .bytes
-    byte-within = turned-within (k % (l .ch * l .bytes)) (mod-lt k stride-some)
+    byte-within : highFirst (l .bytes) (l .le) (k % (l .ch * l .bytes)) < l .ch * l .bytes
+    byte-within = high-first-within (k % (l .ch * l .bytes)) (mod-lt k stride-some)
 
-    pub interleaved-below : l .separate ≡ false → k / (l .ch * l .bytes) * (l .ch * l .bytes) + turned (l .bytes) (l .le) (k % (l .ch * l .bytes)) < l .«scratch_len»
+    pub interleaved-below : l .separate ≡ false → k / (l .ch * l .bytes) * (l .ch * l .bytes) + highFirst (l .bytes) (l .le) (k % (l .ch * l .bytes)) < l .«scratch_len»
     unfolding planeChannels planes
     interleaved-below e =
         let scratch : l .«scratch_len» ≡ l .w * l .h * (l .ch * l .bytes) = rw (row-is plain, plain-one plain .0, e, mul-one) at scratch-is in
@@ -121,7 +121,7 @@ module _ (l : RasterLayout) (s : Sound (recordFaults l)) where
     plain-below = by (l .separate) refl
       where
         by : (b : Bool) → l .separate ≡ b → plainIndex l k < l .«scratch_len»
-        by true e = rw e (separate-below e (turned (l .bytes) (l .le) (k % (l .ch * l .bytes))) byte-within)
+        by true e = rw e (separate-below e (highFirst (l .bytes) (l .le) (k % (l .ch * l .bytes))) byte-within)
         by false e = rw e (interleaved-below e)
 
   -- so wherever a byte of the picture comes from

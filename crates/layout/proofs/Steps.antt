@@ -14,5 +14,5 @@ unless-append (f ∷ fs) gs = by (f .found) (unless-append fs gs)
     by true e = refl
     by false e = e
 
-pub in-turn : (fs gs : List Fault) (a b : Done) → StepPassed fs a → StepPassed gs b → firstOf (doneOutcome a) (doneOutcome b) ≡ unless (fs ++ gs) tt
-in-turn fs gs a b p q = rw (p, q) (unless-append fs gs)
+pub one-then-other : (fs gs : List Fault) (a b : Done) → StepPassed fs a → StepPassed gs b → firstOf (doneOutcome a) (doneOutcome b) ≡ unless (fs ++ gs) tt
+one-then-other fs gs a b p q = rw (p, q) (unless-append fs gs)

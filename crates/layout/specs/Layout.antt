@@ -155,15 +155,15 @@ unfoldable pub packedIndex : RasterLayout → ℕ → ℕ
 packedIndex l k = k / l .ch / l .w * l .«encoded_width» + k / l .ch % l .w / l .slots
 
 -- the two bytes of a little-endian word change places
-unfoldable pub turned : ℕ → Bool → ℕ → ℕ
-turned bytes le c = pick (eqb bytes 2 && le) (c - c % 2 + 1 - c % 2) c
+unfoldable pub highFirst : ℕ → Bool → ℕ → ℕ
+highFirst bytes le c = pick (eqb bytes 2 && le) (c - c % 2 + 1 - c % 2) c
 
 -- else byte by byte, in one plane or in one for each channel
 unfoldable pub plainIndex : RasterLayout → ℕ → ℕ
 plainIndex l k =
     let stride = l .ch * l .bytes in
     let p = k / stride in
-    let c = turned (l .bytes) (l .le) (k % stride) in pick (l .separate) (c / l .bytes * l .«plane_len» + p * l .bytes + c % l .bytes) (p * stride + c)
+    let c = highFirst (l .bytes) (l .le) (k % stride) in pick (l .separate) (c / l .bytes * l .«plane_len» + p * l .bytes + c % l .bytes) (p * stride + c)
 
 abbrev pub sourceIndex : RasterLayout → ℕ → ℕ
 sourceIndex l k = pick (packed l) (packedIndex l k) (plainIndex l k)

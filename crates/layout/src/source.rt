@@ -1,7 +1,7 @@
 use crate::RasterLayout;
 ghost use mathlib.Core.Path.{_≡_};
 ghost use mathlib.Core.Bool.{true, false};
-ghost use Rattle.layout.specs.Layout.{Asked, packed, packedIndex, turned, plainIndex, sourceIndex};
+ghost use Rattle.layout.specs.Layout.{Asked, packed, packedIndex, highFirst, plainIndex, sourceIndex};
 
 // Whether a byte of a plane holds several samples, or a place of the map.
 fn is_packed(l: RasterLayout) -> bool
@@ -23,8 +23,8 @@ fn packed_index(l: RasterLayout, k: usize) -> usize
 }
 
 // The two bytes of a little-endian word change places.
-fn turn(bytes: usize, le: bool, c: usize) -> usize
-    ensures { λ r. ⌜ r ≡ turned bytes le c ⌝ }
+fn high_first(bytes: usize, le: bool, c: usize) -> usize
+    ensures { λ r. ⌜ r ≡ highFirst bytes le c ⌝ }
 {
     if bytes != 2 {
         return c;
@@ -39,7 +39,7 @@ fn plain_index(l: RasterLayout, k: usize) -> usize
 {
     let stride = l.ch * l.bytes;
     let p = k / stride;
-    let c = turn(l.bytes, l.le, k % stride);
+    let c = high_first(l.bytes, l.le, k % stride);
     if l.separate {
         c / l.bytes * l.plane_len + p * l.bytes + c % l.bytes
     } else {

@@ -7,10 +7,9 @@ use native.Mathlib.Nat.{mod-lt}
 use native.Mathlib.Omega.{arith}
 use lib.ListN.{length, getD}
 use lib.Dec.{eqb}
-use Rattle.answer.specs.Outcome.{pick}
+use Rattle.answer.specs.Outcome.{pick, xor}
 use Rattle.answer.specs.Table.{filled}
 use Rattle.answer.proofs.Filling.{stores-filled}
-use Rattle.samples.specs.Promises.{apart}
 use Rattle.pixels.specs.Render.{flipped}
 use Rattle.packed.specs.Rows.{bilevelAt, Spread}
 
@@ -26,18 +25,18 @@ turned-over (suc (suc (suc (suc (suc (suc zero)))))) v h b = omega arith
 turned-over (suc (suc (suc (suc (suc (suc (suc zero))))))) v h b = omega arith
 turned-over (suc (suc (suc (suc (suc (suc (suc (suc k)))))))) v h b = absurd (omega arith)
 
-lit : (d : ℕ) → d < 2 → 255 * d ≡ pick (apart (eqb d 0) false) 0 255
+lit : (d : ℕ) → d < 2 → 255 * d ≡ pick (xor (eqb d 0) false) 0 255
 lit zero h = refl
 lit (suc zero) h = refl
 lit (suc (suc d)) h = absurd (omega arith)
 
-unlit : (d : ℕ) → d < 2 → 255 * (1 - d) ≡ pick (apart (eqb d 0) true) 0 255
+unlit : (d : ℕ) → d < 2 → 255 * (1 - d) ≡ pick (xor (eqb d 0) true) 0 255
 unlit zero h = refl
 unlit (suc zero) h = refl
 unlit (suc (suc d)) h = absurd (omega arith)
 
 -- a bit's byte
-level : (white : Bool) (k v : ℕ) → k < 8 → v < 256 → 255 * (flipped white v / 2 ^ k % 2) ≡ pick (apart (eqb (v / 2 ^ k % 2) 0) white) 0 255
+level : (white : Bool) (k v : ℕ) → k < 8 → v < 256 → 255 * (flipped white v / 2 ^ k % 2) ≡ pick (xor (eqb (v / 2 ^ k % 2) 0) white) 0 255
 level true k v h b = ap (λ (d : ℕ). 255 * d) (turned-over k v h b) ∙ unlit (v / 2 ^ k % 2) (mod-lt (v / 2 ^ k) (omega arith))
 level false k v h b = lit (v / 2 ^ k % 2) (mod-lt (v / 2 ^ k) (omega arith))
 

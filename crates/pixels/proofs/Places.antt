@@ -8,10 +8,10 @@ use native.Mathlib.Omega.{arith}
 use lib.Dec.{eqb}
 use Rattle.answer.specs.Outcome.{Sound, pick}
 use Rattle.layout.specs.declared.RasterLayout.{RasterLayout}
-use Rattle.layout.specs.Layout.{given, encodedWidth, planeChannels, planes, planeLength, scratchLength, recordFaults, packed, turned, plainIndex, sourceIndex}
+use Rattle.layout.specs.Layout.{given, encodedWidth, planeChannels, planes, planeLength, scratchLength, recordFaults, packed, highFirst, plainIndex, sourceIndex}
 use Rattle.layout.proofs.Accepted.{up-to-eight}
 use Rattle.layout.proofs.Whole.{record-accepted, record-agreed}
-use Rattle.layout.proofs.Placed.{grouped, stride-some, output-is, scratch-is, plain-one, row-is, turned-within}
+use Rattle.layout.proofs.Placed.{grouped, stride-some, output-is, scratch-is, plain-one, row-is, high-first-within}
 use Rattle.pixels.specs.Render.{rowBytes}
 use Rattle.pixels.specs.Planes.{placeIndex}
 
@@ -27,9 +27,9 @@ positive a zero {n} h = absurd (omega (arith, mul-zero a))
 positive a (suc b) h = omega arith
 
 -- the bytes of a word change places, and change back
-pub turned-turned : (bytes : ℕ) (le : Bool) (c : ℕ) → turned bytes le (turned bytes le c) ≡ c
-unfolding turned
-turned-turned bytes le c = by (eqb bytes 2 && le)
+pub high-first-twice : (bytes : ℕ) (le : Bool) (c : ℕ) → highFirst bytes le (highFirst bytes le c) ≡ c
+unfolding highFirst
+high-first-twice bytes le c = by (eqb bytes 2 && le)
   where
     by : (b : Bool) → pick b (pick b (c - c % 2 + 1 - c % 2) c - pick b (c - c % 2 + 1 - c % 2) c % 2 + 1 - pick b (c - c % 2 + 1 - c % 2) c % 2) (pick b (c - c % 2 + 1 - c % 2) c) ≡ c
     by true = omega arith
@@ -58,30 +58,30 @@ module _ (l : RasterLayout) (s : Sound (recordFaults l)) (plain : packed l ≡ f
   unfolding planeChannels planes
   together-is e = rw (row-is l s plain, plain-one l s plain .0, e, mul-one) at (scratch-is l s)
 
-  turned-below : (c : ℕ) → c < stride l → turned (l .bytes) (l .le) c < stride l
-  turned-below = turned-within l s
+  high-first-below : (c : ℕ) → c < stride l → highFirst (l .bytes) (l .le) c < stride l
+  high-first-below = high-first-within l s
 
   -- byte c of pixel p, in one plane
   module _ (together : l .separate ≡ false) where
-    pub together-source : (p c : ℕ) → c < stride l → sourceIndex l (p * (stride l) + c) ≡ p * (stride l) + turned (l .bytes) (l .le) c
+    pub together-source : (p c : ℕ) → c < stride l → sourceIndex l (p * (stride l) + c) ≡ p * (stride l) + highFirst (l .bytes) (l .le) c
     unfolding plainIndex
     together-source p c h = rw (plain, together, group-of p (stride l) h, item-of p (stride l) h)
 
-    pub together-place : (p c : ℕ) → c < stride l → placeIndex l (p * (stride l) + c) ≡ p * (stride l) + turned (l .bytes) (l .le) c
+    pub together-place : (p c : ℕ) → c < stride l → placeIndex l (p * (stride l) + c) ≡ p * (stride l) + highFirst (l .bytes) (l .le) c
     unfolding placeIndex
     together-place p c h = rw (together, group-of p (stride l) h, item-of p (stride l) h)
 
   -- byte b of channel c of pixel p, in its channel's plane
-  module _ (apart : l .separate ≡ true) where
-    pub apart-source : (p c : ℕ) → c < stride l → sourceIndex l (p * (stride l) + c) ≡ turned (l .bytes) (l .le) c / l .bytes * l .«plane_len» + (p * l .bytes + turned (l .bytes) (l .le) c % l .bytes)
+  module _ (xor : l .separate ≡ true) where
+    pub apart-source : (p c : ℕ) → c < stride l → sourceIndex l (p * (stride l) + c) ≡ highFirst (l .bytes) (l .le) c / l .bytes * l .«plane_len» + (p * l .bytes + highFirst (l .bytes) (l .le) c % l .bytes)
     unfolding plainIndex
-    apart-source p c h = rw (plain, apart, group-of p (stride l) h, item-of p (stride l) h) (add-assoc _ _ _)
+    apart-source p c h = rw (plain, xor, group-of p (stride l) h, item-of p (stride l) h) (add-assoc _ _ _)
 
-    pub apart-place : (p c b : ℕ) → p < l .w * l .h → c < l .ch → b < l .bytes → placeIndex l (c * l .«plane_len» + (p * l .bytes + b)) ≡ p * (stride l) + turned (l .bytes) (l .le) (c * l .bytes + b)
+    pub apart-place : (p c b : ℕ) → p < l .w * l .h → c < l .ch → b < l .bytes → placeIndex l (c * l .«plane_len» + (p * l .bytes + b)) ≡ p * (stride l) + highFirst (l .bytes) (l .le) (c * l .bytes + b)
     unfolding placeIndex
     apart-place p c b h k j =
-        let inner : p * l .bytes + b < l .«plane_len» = rw (plane-is apart .0) (grouped h j) in
-        rw (apart, group-of c (l .«plane_len») inner, item-of c (l .«plane_len») inner, group-of p (l .bytes) j, item-of p (l .bytes) j)
+        let inner : p * l .bytes + b < l .«plane_len» = rw (plane-is xor .0) (grouped h j) in
+        rw (xor, group-of c (l .«plane_len») inner, item-of c (l .«plane_len») inner, group-of p (l .bytes) j, item-of p (l .bytes) j)
 
   pixel : (k : ℕ) → k < l .«output_len» → k / (stride l) < l .w * l .h
   pixel k h = div-lt-iff-lt-mul (stride-some l s) .1 (omega (arith, output-is l s))
@@ -91,7 +91,7 @@ module _ (l : RasterLayout) (s : Sound (recordFaults l)) (plain : packed l ≡ f
   place-source k h = by (l .separate) refl
     where
       c : ℕ
-      c = turned (l .bytes) (l .le) (k % (stride l))
+      c = highFirst (l .bytes) (l .le) (k % (stride l))
 
       within : k % (stride l) < stride l
       within = mod-lt k (stride-some l s)
@@ -99,28 +99,28 @@ module _ (l : RasterLayout) (s : Sound (recordFaults l)) (plain : packed l ≡ f
       whole : k / (stride l) * (stride l) + k % (stride l) ≡ k
       whole = div-add-mod' k (stride l)
 
-      back : k / (stride l) * (stride l) + turned (l .bytes) (l .le) c ≡ k
-      back = ap (λ (n : ℕ). k / (stride l) * (stride l) + n) (turned-turned (l .bytes) (l .le) (k % (stride l))) ∙ whole
+      back : k / (stride l) * (stride l) + highFirst (l .bytes) (l .le) c ≡ k
+      back = ap (λ (n : ℕ). k / (stride l) * (stride l) + n) (high-first-twice (l .bytes) (l .le) (k % (stride l))) ∙ whole
 
       by : (b : Bool) → l .separate ≡ b → placeIndex l (sourceIndex l k) ≡ k
       by false e =
           ap (λ (n : ℕ). placeIndex l (sourceIndex l n)) (sym whole)
           ∙ ap (placeIndex l) (together-source e (k / (stride l)) (k % (stride l)) within)
-          ∙ together-place e (k / (stride l)) c (turned-below (k % (stride l)) within)
+          ∙ together-place e (k / (stride l)) c (high-first-below (k % (stride l)) within)
           ∙ back
       by true e =
           ap (λ (n : ℕ). placeIndex l (sourceIndex l n)) (sym whole)
           ∙ ap (placeIndex l) (apart-source e (k / (stride l)) (k % (stride l)) within)
-          ∙ apart-place e (k / (stride l)) (c / l .bytes) (c % l .bytes) (pixel k h) (div-lt-iff-lt-mul bytes-some .1 (turned-below (k % (stride l)) within)) (mod-lt c bytes-some)
-          ∙ ap (λ (n : ℕ). k / (stride l) * (stride l) + turned (l .bytes) (l .le) n) (div-add-mod' c (l .bytes))
+          ∙ apart-place e (k / (stride l)) (c / l .bytes) (c % l .bytes) (pixel k h) (div-lt-iff-lt-mul bytes-some .1 (high-first-below (k % (stride l)) within)) (mod-lt c bytes-some)
+          ∙ ap (λ (n : ℕ). k / (stride l) * (stride l) + highFirst (l .bytes) (l .le) n) (div-add-mod' c (l .bytes))
           ∙ back
 
   -- and a place takes a byte of the picture that comes from there
   pub source-place : (i : ℕ) → i < l .«scratch_len» → (placeIndex l i < l .«output_len») × (sourceIndex l (placeIndex l i) ≡ i)
   source-place i h = by (l .separate) refl
     where
-      out : (p c : ℕ) → p < l .w * l .h → c < stride l → p * (stride l) + turned (l .bytes) (l .le) c < l .«output_len»
-      out p c q r = omega (arith, output-is l s, grouped q (turned-below c r))
+      out : (p c : ℕ) → p < l .w * l .h → c < stride l → p * (stride l) + highFirst (l .bytes) (l .le) c < l .«output_len»
+      out p c q r = omega (arith, output-is l s, grouped q (high-first-below c r))
 
       by : (b : Bool) → l .separate ≡ b → (placeIndex l i < l .«output_len») × (sourceIndex l (placeIndex l i) ≡ i)
       by false e =
@@ -128,9 +128,9 @@ module _ (l : RasterLayout) (s : Sound (recordFaults l)) (plain : packed l ≡ f
           let within : c < stride l = mod-lt i (stride-some l s) in
           let whole : i / (stride l) * (stride l) + c ≡ i = div-add-mod' i (stride l) in
           let pix : i / (stride l) < l .w * l .h = div-lt-iff-lt-mul (stride-some l s) .1 (omega (arith, together-is e)) in
-          let at : placeIndex l i ≡ i / (stride l) * (stride l) + turned (l .bytes) (l .le) c = ap (placeIndex l) (sym whole) ∙ together-place e (i / (stride l)) c within in (
+          let at : placeIndex l i ≡ i / (stride l) * (stride l) + highFirst (l .bytes) (l .le) c = ap (placeIndex l) (sym whole) ∙ together-place e (i / (stride l)) c within in (
             rw at (out (i / (stride l)) c pix within),
-            ap (sourceIndex l) at ∙ together-source e (i / (stride l)) (turned (l .bytes) (l .le) c) (turned-below c within) ∙ ap (λ (n : ℕ). i / (stride l) * (stride l) + n) (turned-turned (l .bytes) (l .le) c) ∙ whole,
+            ap (sourceIndex l) at ∙ together-source e (i / (stride l)) (highFirst (l .bytes) (l .le) c) (high-first-below c within) ∙ ap (λ (n : ℕ). i / (stride l) * (stride l) + n) (high-first-twice (l .bytes) (l .le) c) ∙ whole,
           )
       by true e =
           let plane = l .«plane_len» in
@@ -143,11 +143,11 @@ module _ (l : RasterLayout) (s : Sound (recordFaults l)) (plain : packed l ≡ f
           let byte : r % l .bytes < l .bytes = mod-lt r bytes-some in
           let c = i / plane * l .bytes + r % l .bytes in
           let inside : c < stride l = grouped chan byte in
-          let at : placeIndex l i ≡ r / l .bytes * (stride l) + turned (l .bytes) (l .le) c =
+          let at : placeIndex l i ≡ r / l .bytes * (stride l) + highFirst (l .bytes) (l .le) c =
           ap (placeIndex l) (sym whole ∙ ap (λ (n : ℕ). i / plane * plane + n) (sym within)) ∙ apart-place e (r / l .bytes) (i / plane) (r % l .bytes) pix chan byte in (
             rw at (out (r / l .bytes) c pix inside),
             ap (sourceIndex l) at
-                ∙ apart-source e (r / l .bytes) (turned (l .bytes) (l .le) c) (turned-below c inside)
-                ∙ ap (λ (n : ℕ). n / l .bytes * plane + (r / l .bytes * l .bytes + n % l .bytes)) (turned-turned (l .bytes) (l .le) c)
+                ∙ apart-source e (r / l .bytes) (highFirst (l .bytes) (l .le) c) (high-first-below c inside)
+                ∙ ap (λ (n : ℕ). n / l .bytes * plane + (r / l .bytes * l .bytes + n % l .bytes)) (high-first-twice (l .bytes) (l .le) c)
                 ∙ rw (group-of (i / plane) (l .bytes) byte, item-of (i / plane) (l .bytes) byte) (ap (λ (n : ℕ). i / plane * plane + n) within ∙ whole),
           )

@@ -11,13 +11,12 @@ use borrow.Author.Tests.{eq-eqb, eqb-true, lt-ltb, ltb-true, not-false}
 use native.Mathlib.Decide.{decLt}
 use lib.ListN.{getD}
 use lib.Dec.{eqb, ltb}
-use Rattle.answer.specs.Outcome.{Sound, pick}
+use Rattle.answer.specs.Outcome.{Sound, pick, xor}
 use Rattle.answer.specs.Table.{table}
 use Rattle.answer.proofs.Filling.{table-at}
 use Rattle.words.specs.Digits.{digit}
 use Rattle.words.specs.Word.{Bytes}
 use Rattle.words.proofs.Digits.{digit-value, value-same}
-use Rattle.samples.specs.Promises.{apart}
 use Rattle.layout.specs.declared.RasterLayout.{RasterLayout}
 use Rattle.layout.specs.Layout.{recordFaults, packed, packedIndex, sourceIndex}
 use Rattle.layout.proofs.Says.{Says, up, equal, both, either}
@@ -39,13 +38,13 @@ pub not-picked : {b : Bool} (x y : ℕ) → b ≡ false → pick b x y ≡ y
 not-picked x y e = rw e
 
 -- a byte of two levels and its bit
-pub level-bit : (white : Bool) (v : ℕ) → (v ≡ 0) ⊎ (v ≡ 255) → pick (apart (eqb (bilevelBit white v) 0) white) 0 255 ≡ v
+pub level-bit : (white : Bool) (v : ℕ) → (v ≡ 0) ⊎ (v ≡ 255) → pick (xor (eqb (bilevelBit white v) 0) white) 0 255 ≡ v
 level-bit true v (inl e) = rw e
 level-bit true v (inr e) = rw e
 level-bit false v (inl e) = rw e
 level-bit false v (inr e) = rw e
 
-pub bit-level : (white : Bool) (b : ℕ) → b < 2 → bilevelBit white (pick (apart (eqb b 0) white) 0 255) ≡ b
+pub bit-level : (white : Bool) (b : ℕ) → b < 2 → bilevelBit white (pick (xor (eqb b 0) white) 0 255) ≡ b
 bit-level true zero h = refl
 bit-level true (suc zero) h = refl
 bit-level false zero h = refl
@@ -68,7 +67,7 @@ plain-flipped l raw k one = rw one (by (eqb (l .alpha) 0) (lastChannel l k) (l .
     by false false false = refl
 
 bit-below : (white : Bool) (v : ℕ) → bilevelBit white v < 2
-bit-below white v = by (apart (eqb v 0) white)
+bit-below white v = by (xor (eqb v 0) white)
   where
     by : (b : Bool) → pick b 0 1 < 2
     by true = omega arith
@@ -130,8 +129,8 @@ module _ (l : RasterLayout) (s : Sound (recordFaults l)) (off : l .palette ≡ f
         ap (converted l file (table (l .«scratch_len») (written l picture))) (sym here)
         ∙ bilevel-converted file (table (l .«scratch_len») (written l picture)) y x column-in
         ∙ ap (bilevelByte (l .white) x) (table-at (l .«scratch_len») (written l picture) (y * l .«encoded_width» + x / 8) place ∙ picked _ _ (eq-eqb (l .slots) 8 eight))
-        ∙ ap (λ (b : ℕ). pick (apart (eqb b 0) (l .white)) 0 255) (bilevel-bit picture y x column-in)
-        ∙ ap (λ (i : ℕ). pick (apart (eqb (bilevelBit (l .white) (getD picture i 0)) 0) (l .white)) 0 255) here
+        ∙ ap (λ (b : ℕ). pick (xor (eqb b 0) (l .white)) 0 255) (bilevel-bit picture y x column-in)
+        ∙ ap (λ (i : ℕ). pick (xor (eqb (bilevelBit (l .white) (getD picture i 0)) 0) (l .white)) 0 255) here
         ∙ level-bit (l .white) (getD picture k 0) levels
 
     -- written from what was rendered

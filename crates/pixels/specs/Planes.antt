@@ -4,13 +4,12 @@ use mathlib.Core.Bool.{Bool, true, not, _&&_, _||_}
 use mathlib.Core.List.{List, [], _∷_, _++_}
 use lib.ListN.{length, getD}
 use lib.Dec.{eqb, ltb}
-use Rattle.answer.specs.Outcome.{Fault, unless, pick, unsupported, invalid, truncated, outputTooSmall, Promise, doneOutcome}
+use Rattle.answer.specs.Outcome.{Fault, unless, pick, unsupported, invalid, truncated, outputTooSmall, Promise, doneOutcome, xor}
 use Rattle.answer.specs.Table.{table}
 use Rattle.answer.specs.declared.Done.{Done}
 use Rattle.words.specs.Digits.{digit, value}
-use Rattle.samples.specs.Promises.{apart}
 use Rattle.layout.specs.declared.RasterLayout.{RasterLayout}
-use Rattle.layout.specs.Layout.{recordFaults, turned}
+use Rattle.layout.specs.Layout.{recordFaults, highFirst}
 use Rattle.pixels.specs.Render.{flipped}
 
 -- the byte of the picture that place i of the planes takes, where a place holds one byte
@@ -18,18 +17,18 @@ unfoldable pub placeIndex : RasterLayout → ℕ → ℕ
 placeIndex l i =
     let stride = l .ch * l .bytes in
     let within = i % l .«plane_len» in
-    pick (l .separate) (within / l .bytes * stride + turned (l .bytes) (l .le) (i / l .«plane_len» * l .bytes + within % l .bytes)) (i / stride * stride + turned (l .bytes) (l .le) (i % stride))
+    pick (l .separate) (within / l .bytes * stride + highFirst (l .bytes) (l .le) (i / l .«plane_len» * l .bytes + within % l .bytes)) (i / stride * stride + highFirst (l .bytes) (l .le) (i % stride))
 
 -- white turns every channel over but alpha, and so byte k
-abbrev pub turnsOver : RasterLayout → ℕ → Bool
-turnsOver l c = l .white && (eqb (l .alpha) 0 || not (eqb c (l .ch - 1)))
+abbrev pub flipsChannel : RasterLayout → ℕ → Bool
+flipsChannel l c = l .white && (eqb (l .alpha) 0 || not (eqb c (l .ch - 1)))
 
 abbrev pub flips : RasterLayout → ℕ → Bool
-flips l k = turnsOver l (k % l .ch)
+flips l k = flipsChannel l (k % l .ch)
 
 -- the bit of a bilevel byte
 abbrev pub bilevelBit : Bool → ℕ → ℕ
-bilevelBit white v = pick (apart (eqb v 0) white) 0 1
+bilevelBit white v = pick (xor (eqb v 0) white) 0 1
 
 -- the column whose bit is bit p of byte i of bilevel planes
 abbrev pub column : RasterLayout → ℕ → ℕ → ℕ

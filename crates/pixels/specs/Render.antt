@@ -7,11 +7,10 @@ use mathlib.Core.Logic.{_⊎_}
 use mathlib.Core.List.{List, [], _∷_, _++_}
 use lib.ListN.{length, getD}
 use lib.Dec.{eqb, ltb}
-use Rattle.answer.specs.Outcome.{Fault, unless, pick, unsupported, truncated, outputTooSmall, Promise, doneOutcome}
+use Rattle.answer.specs.Outcome.{Fault, unless, pick, unsupported, truncated, outputTooSmall, Promise, doneOutcome, xor}
 use Rattle.answer.specs.Table.{table}
 use Rattle.answer.specs.declared.Done.{Done}
 use Rattle.words.specs.Word.{wordAt}
-use Rattle.samples.specs.Promises.{apart}
 use Rattle.layout.specs.declared.RasterLayout.{RasterLayout}
 use Rattle.layout.specs.Layout.{recordFaults, sourceIndex}
 
@@ -59,7 +58,7 @@ mapByte l file c index = wordAt file (l .map + 2 * (c * l .colors + index)) 2 (l
 
 -- the byte for column x of a bilevel picture, whose bits stand in v
 abbrev pub bilevelByte : Bool → ℕ → ℕ → ℕ
-bilevelByte white x v = pick (apart (eqb (v / 2 ^ (7 - x % 8) % 2) 0) white) 0 255
+bilevelByte white x v = pick (xor (eqb (v / 2 ^ (7 - x % 8) % 2) 0) white) 0 255
 
 -- byte k is a pixel's alpha
 abbrev pub lastChannel : RasterLayout → ℕ → Bool

@@ -208,7 +208,7 @@ fn moved(call: usize, p: &[usize], input: &[u8], file: &[u8], out: &mut [u8]) ->
     match call {
         CONVERT | FORWARD => convert(call, p, input, out),
         REORDER => samples::reorder(input, width, on(p, LE), on(p, OUT_LE), out),
-        SWAP => transport::swap_components(input, width, out),
+        SWAP => swaps::swap_components(input, width, out),
         COMMIT => transport::commit_uninit(input, out),
         REVERSE => reverse(input, out),
         RENDER => rendering::render(record(p), file, input, out),

@@ -38,13 +38,13 @@ fn colour(p: &[usize], file: &[u8], c: usize, place: usize) -> usize {
 }
 
 // v, or 255 - v with white.
-fn turned(p: &[usize], v: usize) -> usize {
+fn flipped(p: &[usize], v: usize) -> usize {
     either(on(p, WHITE), minus(255, v), v)
 }
 
 // A colour beside alpha byte a.
 fn straight(p: &[usize], v: usize, a: usize) -> usize {
-    let u = turned(p, v);
+    let u = flipped(p, v);
     if at(p, ALPHA) == 2 {
         u
     } else {
@@ -58,7 +58,7 @@ fn packed_byte(p: &[usize], file: &[u8], v: usize, k: usize) -> usize {
     if on(p, PALETTE) {
         colour(p, file, channel(p, k), place)
     } else {
-        turned(p, times(255, place))
+        flipped(p, times(255, place))
     }
 }
 
@@ -70,7 +70,7 @@ pub fn rendered(p: &[usize], file: &[u8], raw: &[u8], k: usize) -> usize {
     if packed(p) {
         packed_byte(p, file, v, k)
     } else if at(p, ALPHA) == 0 {
-        turned(p, v)
+        flipped(p, v)
     } else if c == last {
         v
     } else {
@@ -108,7 +108,7 @@ pub fn write_fault(p: &[usize], picture: &[u8]) -> usize {
 
 // What byte k of the picture, which is v, puts into its byte of the planes: for bilevel one bit.
 fn put_in(p: &[usize], v: usize, k: usize) -> usize {
-    let u = turned(p, v);
+    let u = flipped(p, v);
     if at(p, SLOTS) == 8 {
         return either(u == 255, power(2, minus(7, remainder(column(p, k), 8))), 0);
     }

@@ -12,15 +12,15 @@ use Rattle.answer.specs.Outcome.{pick}
 use Rattle.answer.specs.Table.{filled, stores}
 use Rattle.answer.proofs.Filling.{length-stores, stores-on, stores-filled, length-filled, filled-all}
 use Rattle.swaps.proofs.Mirror.{group-room}
-use Rattle.layout.specs.Layout.{turned}
-use Rattle.pixels.proofs.Turned.{high-few, some-bytes, turned-one, turned-two, turned-in}
+use Rattle.layout.specs.Layout.{highFirst}
+use Rattle.pixels.proofs.HighFirst.{high-few, some-bytes, high-first-one, high-first-two, high-first-in}
 use Rattle.pixels.proofs.Places.{group-of, item-of}
 use Rattle.pixels.specs.Render.{highByte}
 use Rattle.rendering.specs.Rows.{planePlace, planesAt, PixelFits, PixelGathered, PlanesFit, PlanesInto}
 
 -- which byte of its channel a byte of a two-byte pixel is
-turned-pair : (le : Bool) (c p : ℕ) → turned 2 le (c * 2 + p) ≡ c * 2 + turned 2 le p
-turned-pair le c p = turned-in 2 (inr refl) le c p
+high-first-pair : (le : Bool) (c p : ℕ) → highFirst 2 le (c * 2 + p) ≡ c * 2 + highFirst 2 le p
+high-first-pair le c p = high-first-in 2 (inr refl) le c p
 
 -- the loop over the channels of a pixel
 pub record Channelwise (raw : List ℕ) (planeLength place channels bytes : ℕ) (le : Bool) (at : ℕ) (old : List ℕ) (c from : ℕ) (out : List ℕ) : Type 0 where
@@ -65,19 +65,19 @@ module _ {raw : List ℕ} {planeLength place channels : ℕ} {le : Bool} {at : �
   pub channel-one : PixelFits raw planeLength place channels 1 at old → Channelwise raw planeLength place channels 1 le at old c from out → c < channels → Channelwise raw planeLength place channels 1 le at old (c + 1) (from + planeLength) (set out (at + c) (getD raw from 0))
   channel-one fits is more =
       let where-from : (p : ℕ) → p < 1 → from ≡ planePlace planeLength place 1 le (c * 1 + p) =
-      λ p h. let same : c * 1 + p ≡ c = omega arith in rw (same, turned-one le c, div-one, mod-one) (omega (arith, is .from-is)) in
+      λ p h. let same : c * 1 + p ≡ c = omega arith in rw (same, high-first-one le c, div-one, mod-one) (omega (arith, is .from-is)) in
       channel-next fits is more (λ p. getD raw from 0) (λ p h. ap (λ (i : ℕ). getD raw i 0) (where-from p h)) _ (rw (mul-one, add-zero))
 
   pub channel-two : PixelFits raw planeLength place channels 2 at old → Channelwise raw planeLength place channels 2 le at old c from out → c < channels → (to high : ℕ) → to ≡ at + c * 2 → high ≡ highByte le → Channelwise raw planeLength place channels 2 le at old (c + 1) (from + planeLength) (set (set out to (getD raw (from + high) 0)) (to + 1) (getD raw (from + (1 - high)) 0))
   channel-two fits is more to high there which =
       channel-next fits is more (λ p. getD raw (from + pick (eqb p 0) high (1 - high)) 0) (λ p h. ap (λ (i : ℕ). getD raw i 0) (agree p h)) _ (rw (there, add-zero))
     where
-      place-of : (p q : ℕ) → q < 2 → turned 2 le (c * 2 + p) ≡ c * 2 + q → from + q ≡ planePlace planeLength place 2 le (c * 2 + p)
+      place-of : (p q : ℕ) → q < 2 → highFirst 2 le (c * 2 + p) ≡ c * 2 + q → from + q ≡ planePlace planeLength place 2 le (c * 2 + p)
       place-of p q k e = rw e (rw (group-of c 2 k, item-of c 2 k) (omega (arith, is .from-is)))
 
       agree : (p : ℕ) → p < 2 → from + pick (eqb p 0) high (1 - high) ≡ planePlace planeLength place 2 le (c * 2 + p)
-      agree zero h = ap (λ (n : ℕ). from + n) which ∙ place-of 0 (highByte le) (omega (arith, high-few le refl)) (turned-pair le c 0 ∙ ap (λ (n : ℕ). c * 2 + n) (turned-two le .0))
-      agree (suc zero) h = ap (λ (n : ℕ). from + (1 - n)) which ∙ place-of 1 (1 - highByte le) (omega (arith, high-few le refl)) (turned-pair le c 1 ∙ ap (λ (n : ℕ). c * 2 + n) (turned-two le .1))
+      agree zero h = ap (λ (n : ℕ). from + n) which ∙ place-of 0 (highByte le) (omega (arith, high-few le refl)) (high-first-pair le c 0 ∙ ap (λ (n : ℕ). c * 2 + n) (high-first-two le .0))
+      agree (suc zero) h = ap (λ (n : ℕ). from + (1 - n)) which ∙ place-of 1 (1 - highByte le) (omega (arith, high-few le refl)) (high-first-pair le c 1 ∙ ap (λ (n : ℕ). c * 2 + n) (high-first-two le .1))
       agree (suc (suc p)) h = absurd (omega arith)
 
 -- the loop over the pixels of a row

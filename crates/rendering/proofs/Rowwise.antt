@@ -8,7 +8,7 @@ use native.Mathlib.Omega.{arith}
 use borrow.Author.Tests.{eq-eqb, le-ltb}
 use native.Mathlib.Decide.{decLt}
 use lib.ListN.{length, getD, drop, length-take, List·getD-eq-default}
-use Rattle.answer.specs.Outcome.{Sound, pick, next, none}
+use Rattle.answer.specs.Outcome.{Sound, pick, next, none, xor}
 use Rattle.answer.specs.Table.{table}
 use Rattle.answer.specs.declared.Done.{Done}
 use Rattle.answer.proofs.Promised.{finished}
@@ -16,12 +16,12 @@ use Rattle.answer.proofs.Filling.{part, length-part, part-at, table-same, fille
 use Rattle.words.specs.Word.{Bytes}
 use Rattle.words.specs.Promises.{served}
 use Rattle.samples.specs.Sample.{wordOf, storedAt}
-use Rattle.samples.specs.Promises.{apart, reorderFaults, Reordered}
+use Rattle.samples.specs.Promises.{reorderFaults, Reordered}
 use Rattle.layout.specs.declared.RasterLayout.{RasterLayout}
-use Rattle.layout.specs.Layout.{given, byteLimit, planeChannels, planes, planeLength, scratchLength, turned, sourceIndex}
+use Rattle.layout.specs.Layout.{given, byteLimit, planeChannels, planes, planeLength, scratchLength, highFirst, sourceIndex}
 use Rattle.layout.proofs.Whole.{record-accepted, record-agreed}
-use Rattle.layout.proofs.Placed.{grouped, stride-some, plain-one, row-is, turned-within, scratch-limited}
-use Rattle.pixels.proofs.Turned.{narrow-served, one-or-two, turned-in, stored-turned}
+use Rattle.layout.proofs.Placed.{grouped, stride-some, plain-one, row-is, high-first-within, scratch-limited}
+use Rattle.pixels.proofs.HighFirst.{narrow-served, one-or-two, high-first-in, stored-high-first}
 use Rattle.pixels.proofs.Places.{stride, plane-is, together-is, apart-source, together-source}
 use Rattle.pixels.specs.Render.{rowBytes, planeRow, OneOrTwo}
 use Rattle.rendering.specs.Rows.{PlainRow, Gathered, planePlace, PlanesFit, PlanesInto}
@@ -35,8 +35,8 @@ part-bytes a e l b i = by (decLt i (e - a))
     by (no h) = rw (List·getD-eq-default (part a e l) 0 {n = i} (omega (arith, length-take (e - a) (drop a l)))) (omega arith)
 
 -- words do not cross pixels
-turned-group : {bytes : ℕ} → OneOrTwo bytes → (le : Bool) (ch a c : ℕ) → turned bytes le (a * (ch * bytes) + c) ≡ a * (ch * bytes) + turned bytes le c
-turned-group {bytes} w le ch a c = let words : a * ch * bytes ≡ a * (ch * bytes) = mul-assoc a ch bytes in rw (← words) (turned-in bytes w le (a * ch) c)
+high-first-group : {bytes : ℕ} → OneOrTwo bytes → (le : Bool) (ch a c : ℕ) → highFirst bytes le (a * (ch * bytes) + c) ≡ a * (ch * bytes) + highFirst bytes le c
+high-first-group {bytes} w le ch a c = let words : a * ch * bytes ≡ a * (ch * bytes) = mul-assoc a ch bytes in rw (← words) (high-first-in bytes w le (a * ch) c)
 
 module _ {l : RasterLayout} {raw : List ℕ} {y : ℕ} {out : List ℕ} (row : PlainRow l raw y out) where
   pub narrow : OneOrTwo (l .bytes)
@@ -108,7 +108,7 @@ module _ {l : RasterLayout} {raw : List ℕ} {y : ℕ} {out : List ℕ} (row : P
       where
         at : (j : ℕ) → sourceIndex l (y * rowBytes l + j) ≡ planePlace (l .«plane_len») (y * planeRow l + j / (l .ch * l .bytes) * l .bytes) (l .bytes) (l .le) (j % (l .ch * l .bytes))
         at j =
-            let c = turned (l .bytes) (l .le) (j % stride l) in
+            let c = highFirst (l .bytes) (l .le) (j % stride l) in
             let from : (y * l .w + j / stride l) * l .bytes ≡ y * planeRow l + j / stride l * l .bytes = add-mul (y * l .w) (j / stride l) (l .bytes) ∙ ap (λ (n : ℕ). n + j / stride l * l .bytes) (mul-assoc y (l .w) (l .bytes) ∙ ap (λ (n : ℕ). y * n) (sym row-apart)) in
             ap (sourceIndex l) (pixel-byte j)
             ∙ apart-source l (row .sound) (row .plain) e (y * l .w + j / stride l) (j % stride l) (byte-within j)
@@ -134,17 +134,17 @@ module _ {l : RasterLayout} {raw : List ℕ} {y : ℕ} {out : List ℕ} (row : P
     unfolding mine
     long = length-part (y * planeRow l) (y * planeRow l + length out) raw (omega arith) part-inside ∙ omega arith
 
-    turned-inside : (j : ℕ) → j < length out → turned (l .bytes) (l .le) j < length out
-    turned-inside j h =
-        let c = turned (l .bytes) (l .le) (j % stride l) in
-        let there : turned (l .bytes) (l .le) j ≡ j / stride l * stride l + c = ap (turned (l .bytes) (l .le)) (sym (div-add-mod' j (stride l))) ∙ turned-group narrow (l .le) (l .ch) (j / stride l) (j % stride l) in
+    high-first-inside : (j : ℕ) → j < length out → highFirst (l .bytes) (l .le) j < length out
+    high-first-inside j h =
+        let c = highFirst (l .bytes) (l .le) (j % stride l) in
+        let there : highFirst (l .bytes) (l .le) j ≡ j / stride l * stride l + c = ap (highFirst (l .bytes) (l .le)) (sym (div-add-mod' j (stride l))) ∙ high-first-group narrow (l .le) (l .ch) (j / stride l) (j % stride l) in
         let pixel : j / stride l < l .w = div-lt-iff-lt-mul (stride-some l (row .sound)) .1 (omega (arith, row .room)) in
-        omega (arith, there, row .room, grouped pixel (turned-within l (row .sound) (j % stride l) (byte-within j)))
+        omega (arith, there, row .room, grouped pixel (high-first-within l (row .sound) (j % stride l) (byte-within j)))
 
-    at : (j : ℕ) → sourceIndex l (y * rowBytes l + j) ≡ y * planeRow l + turned (l .bytes) (l .le) j
+    at : (j : ℕ) → sourceIndex l (y * rowBytes l + j) ≡ y * planeRow l + highFirst (l .bytes) (l .le) j
     at j =
-        let c = turned (l .bytes) (l .le) (j % stride l) in
-        let there : turned (l .bytes) (l .le) j ≡ j / stride l * stride l + c = ap (turned (l .bytes) (l .le)) (sym (div-add-mod' j (stride l))) ∙ turned-group narrow (l .le) (l .ch) (j / stride l) (j % stride l) in
+        let c = highFirst (l .bytes) (l .le) (j % stride l) in
+        let there : highFirst (l .bytes) (l .le) j ≡ j / stride l * stride l + c = ap (highFirst (l .bytes) (l .le)) (sym (div-add-mod' j (stride l))) ∙ high-first-group narrow (l .le) (l .ch) (j / stride l) (j % stride l) in
         ap (sourceIndex l) (pixel-byte j)
         ∙ together-source l (row .sound) (row .plain) e (y * l .w + j / stride l) (j % stride l) (byte-within j)
         ∙ omega (arith, there, row-together, add-mul (y * l .w) (j / stride l) (stride l), mul-assoc y (l .w) (stride l), ap (λ (n : ℕ). y * n) row-together)
@@ -159,14 +159,14 @@ module _ {l : RasterLayout} {raw : List ℕ} {y : ℕ} {out : List ℕ} (row : P
         ∙ filled-all (length mine) _ out (omega (arith, long))
         ∙ ap (λ (n : ℕ). table n (storedAt (l .bytes) false (wordOf (l .bytes) (l .le) mine))) long
         ∙ table-same (length out) _ _ (λ j h.
-        stored-turned mine (part-bytes (y * planeRow l) (y * planeRow l + length out) raw b) narrow (l .le) false j
-        ∙ ap (λ (d : Bool). getD mine (turned (l .bytes) d j) 0) (apart-from-false (l .le))
-        ∙ part-at (y * planeRow l) (y * planeRow l + length out) raw (turned (l .bytes) (l .le) j) (omega (arith, turned-inside j h))
+        stored-high-first mine (part-bytes (y * planeRow l) (y * planeRow l + length out) raw b) narrow (l .le) false j
+        ∙ ap (λ (d : Bool). getD mine (highFirst (l .bytes) d j) 0) (xor-false (l .le))
+        ∙ part-at (y * planeRow l) (y * planeRow l + length out) raw (highFirst (l .bytes) (l .le) j) (omega (arith, high-first-inside j h))
         ∙ ap (λ (i : ℕ). getD raw i 0) (sym (at j)))
       where
-        apart-from-false : (b : Bool) → apart b false ≡ b
-        apart-from-false true = refl
-        apart-from-false false = refl
+        xor-false : (b : Bool) → xor b false ≡ b
+        xor-false true = refl
+        xor-false false = refl
 
         words-whole : OneOrTwo (l .bytes) → l .w * (l .ch * l .bytes) % l .bytes ≡ 0
         words-whole w = ap (λ (n : ℕ). n % l .bytes) (sym (mul-assoc (l .w) (l .ch) (l .bytes))) ∙ mul-mod-left (l .w * l .ch) (l .bytes)

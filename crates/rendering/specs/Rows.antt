@@ -8,7 +8,7 @@ use lib.Dec.{eqb}
 use Rattle.answer.specs.Outcome.{Sound, pick}
 use Rattle.answer.specs.Table.{table, filled, stores}
 use Rattle.layout.specs.declared.RasterLayout.{RasterLayout}
-use Rattle.layout.specs.Layout.{recordFaults, packed, turned}
+use Rattle.layout.specs.Layout.{recordFaults, packed, highFirst}
 use Rattle.pixels.specs.Render.{rowBytes, flipped, OneOrTwo, straightColour, source, plainByte, converted}
 
 -- past every refusal
@@ -69,7 +69,7 @@ Finished l old new = new ≡ table (length old) (finishedAt l old)
 
 -- byte c of a pixel whose channels stand in planes of their own, from a place of the first on
 abbrev pub planePlace : ℕ → ℕ → ℕ → Bool → ℕ → ℕ
-planePlace planeLength place bytes le c = turned bytes le c / bytes * planeLength + (place + turned bytes le c % bytes)
+planePlace planeLength place bytes le c = highFirst bytes le c / bytes * planeLength + (place + highFirst bytes le c % bytes)
 
 -- and byte j of such pixels
 abbrev pub planesAt : List ℕ → ℕ → ℕ → ℕ → ℕ → Bool → ℕ → ℕ

@@ -14,7 +14,7 @@ use Rattle.answer.specs.declared.Done.{Done}
 use Rattle.answer.proofs.Promised.{finished}
 use Rattle.answer.proofs.Filling.{part, length-part, part-filled, length-filled, filled-all, filled-same, filled-take, filled-on, table-same}
 use Rattle.words.specs.Digits.{digit}
-use Rattle.words.specs.Word.{turn, Bytes, wordAt, modulus}
+use Rattle.words.specs.Word.{ordered, Bytes, wordAt, modulus}
 use Rattle.words.proofs.Words.{word-below}
 use Rattle.samples.specs.Sample.{Strip, wordOf, alone, storedAt}
 use Rattle.samples.specs.Promises.{reorderFaults, Reordered}
@@ -37,7 +37,7 @@ led raw out new step width le out-le answer fits p =
     finished (reorderFaults front width (part 0 step out)) tt (length front) (storedAt width out-le (wordOf width le front)) (part 0 step out) new sound p
     ∙ filled-all (length front) _ (part 0 step out) (omega arith)
     ∙ ap (λ (n : ℕ). table n (storedAt width out-le (wordOf width le front))) long
-    ∙ table-same (step - 0) _ _ (λ k h. rw zero-add (ap (digit 256 (turn out-le width (k % width))) (part-word raw 0 step (k / width * width) width le (word-room (step - 0) width k (rw none-taken (fits .words)) h) ∙ ap (λ (i : ℕ). wordAt raw i width le) (zero-add (k / width * width))))) in
+    ∙ table-same (step - 0) _ _ (λ k h. rw zero-add (ap (digit 256 (ordered out-le width (k % width))) (part-word raw 0 step (k / width * width) width le (word-room (step - 0) width k (rw none-taken (fits .words)) h) ∙ ap (λ (i : ℕ). wordAt raw i width le) (zero-add (k / width * width))))) in
     part-filled stored 0 step out out new (omega arith) refl all
 
 module _ (raw : List ℕ) (b : Bytes raw) (channels width : ℕ) (some : 0 < width) (le out-le : Bool) (k : ℕ) (h : k < channels * width) where
@@ -48,10 +48,10 @@ module _ (raw : List ℕ) (b : Bytes raw) (channels width : ℕ) (some : 0 < wid
   itself = mod-eq-of-lt (word-below raw (k / width * width) width le b)
 
   pub first-undone : storedAt width out-le (wordOf width le raw) k ≡ undoneAt raw channels width le out-le k
-  first-undone = ap (digit 256 (turn out-le width (k % width))) (sym (sample-alone (oneRow raw channels width) true le raw (k / width) first ∙ itself))
+  first-undone = ap (digit 256 (ordered out-le width (k % width))) (sym (sample-alone (oneRow raw channels width) true le raw (k / width) first ∙ itself))
 
   pub first-predicted : storedAt width out-le (wordOf width le raw) k ≡ predictedAt raw channels width le out-le k
-  first-predicted = ap (digit 256 (turn out-le width (k % width))) (sym (difference-alone (oneRow raw channels width) true le raw (k / width) first ∙ itself))
+  first-predicted = ap (digit 256 (ordered out-le width (k % width))) (sym (difference-alone (oneRow raw channels width) true le raw (k / width) first ∙ itself))
 
 -- going on from the first words, whatever the rest is
 module _ (f : ℕ → ℕ) (raw : List ℕ) (channels width : ℕ) (le out-le : Bool) (old mid : List ℕ) (row : RowServed raw channels width old) (agree : (k : ℕ) → k < channels * width → storedAt width out-le (wordOf width le raw) k ≡ f k) (is : LedInto raw (channels * width) width le out-le old mid) where
@@ -70,7 +70,7 @@ module _ (f : ℕ → ℕ) (raw : List ℕ) (channels width : ℕ) (le out-le : 
 
 -- without prediction every word stands for itself
 pub unpredicted : (raw : List ℕ) (b : Bytes raw) (g : Strip) (le out-le forward : Bool) (old : List ℕ) → filled (length raw) (storedAt (g .width) out-le (wordOf (g .width) le raw)) old ≡ filled (length raw) (storedAt (g .width) out-le (meant forward g false le raw)) old
-unpredicted raw b g le out-le forward old = filled-same (length raw) _ _ old (λ k h. ap (digit 256 (turn out-le (g .width) (k % g .width))) (by forward (k / g .width)))
+unpredicted raw b g le out-le forward old = filled-same (length raw) _ _ old (λ k h. ap (digit 256 (ordered out-le (g .width) (k % g .width))) (by forward (k / g .width)))
   where
     by : (f : Bool) (n : ℕ) → wordOf (g .width) le raw n ≡ meant f g false le raw n
     by true n = sym (difference-alone g false le raw n refl ∙ mod-eq-of-lt (word-below raw (n * g .width) (g .width) le b))

@@ -14,9 +14,9 @@ use lib.ListN.{length, getD}
 use Rattle.answer.specs.Table.{filled}
 use Rattle.answer.proofs.Filling.{length-stores, stores-same, stores-filled, filled-front, filled-already, filled-same}
 use Rattle.words.specs.Digits.{digit}
-use Rattle.words.specs.Word.{turn, wordAt, Put, backwards, modulus, plus, minus}
+use Rattle.words.specs.Word.{ordered, wordAt, Put, backwards, modulus, plus, minus}
 use Rattle.words.proofs.Digits.{digit-below, digit-value, value-digit}
-use Rattle.words.proofs.Words.{turn-below, digits-word, backwards-digit}
+use Rattle.words.proofs.Words.{ordered-below, digits-word, backwards-digit}
 use Rattle.swaps.proofs.Mirror.{group-room}
 use Rattle.samples.specs.Sample.{Strip, alone, wordOf, sample, difference, storedAt}
 use Rattle.samples.proofs.Sums.{sample-alone, sample-later, difference-later}
@@ -34,8 +34,8 @@ pub put-rest : (old : List ℕ) (at width : ℕ) (le : Bool) (v : ℕ) (new : Li
 put-rest old at width le v new e =
     e
     ∙ stores-same old at width _ _ (λ p h.
-    ap (digit 256 (turn le width p)) (sym (value-digit 256 width v (omega arith)))
-    ∙ digit-value 256 width (λ q. digit 256 q v) (λ q l. digit-below 256 q v (omega arith)) (turn le width p) (turn-below le width p h))
+    ap (digit 256 (ordered le width p)) (sym (value-digit 256 width v (omega arith)))
+    ∙ digit-value 256 width (λ q. digit 256 q v) (λ q l. digit-below 256 q v (omega arith)) (ordered le width p) (ordered-below le width p h))
 
 -- the buffer holds the words v, stored, up to `at`
 pub record Upto (v : ℕ → ℕ) (width : ℕ) (out-le : Bool) (raw old : List ℕ) (at : ℕ) (out : List ℕ) : Type 0 where
@@ -128,7 +128,7 @@ zeros (suc n) (suc j) = zeros n j
 pub resumed-none : (raw : List ℕ) (channels width : ℕ) (le out-le : Bool) (old : List ℕ) → 0 < channels → filled (length raw) (storedAt width out-le (resumed raw channels width le (nothing channels))) old ≡ filled (length raw) (undoneAt raw channels width le out-le) old
 resumed-none raw channels width le out-le old some =
     filled-same (length raw) _ _ old (λ k h.
-    ap (digit 256 (turn out-le width (k % width)))
+    ap (digit 256 (ordered out-le width (k % width)))
     (rw (zeros channels (k / width % channels), add-zero) (mod-eq-of-lt (sample-below (oneRow raw channels width) true le raw some (k / width)))))
 
 -- a row whose channels' sums are carried along, from any start

@@ -11,13 +11,13 @@ use lib.Arith.{digits-div, digits-mod}
 use Rattle.answer.specs.Table.{table}
 use Rattle.answer.proofs.Filling.{table-at, table-same, table-self}
 use Rattle.words.specs.Digits.{digit}
-use Rattle.words.specs.Word.{turn, Bytes, wordAt, modulus}
+use Rattle.words.specs.Word.{ordered, Bytes, wordAt, modulus}
 use Rattle.words.proofs.Words.{word-digit, digits-word}
 use Rattle.swaps.proofs.Mirror.{group-room}
 use Rattle.samples.specs.Sample.{storedAt}
 
 -- byte p of word n
-pub stored-byte : (width : ℕ) (le : Bool) (v : ℕ → ℕ) (n p : ℕ) → p < width → storedAt width le v (n * width + p) ≡ digit 256 (turn le width p) (v n)
+pub stored-byte : (width : ℕ) (le : Bool) (v : ℕ → ℕ) (n p : ℕ) → p < width → storedAt width le v (n * width + p) ≡ digit 256 (ordered le width p) (v n)
 stored-byte width le v n p h = rw (digits-mod n h, digits-div n h)
 
 pub stored-word : (bytes width : ℕ) (le : Bool) (v : ℕ → ℕ) (n : ℕ) → n * width + width ≤ bytes → wordAt (table bytes (storedAt width le v)) (n * width) width le ≡ v n % modulus width
@@ -37,4 +37,4 @@ stored-self width le s some b =
 -- words that agree, of which all is there, are stored alike
 pub stored-same : (bytes width : ℕ) (le : Bool) (v w : ℕ → ℕ) → bytes % width ≡ 0 → ((n : ℕ) → n * width + width ≤ bytes → v n ≡ w n) → table bytes (storedAt width le v) ≡ table bytes (storedAt width le w)
 stored-same bytes width le v w whole e =
-    table-same bytes _ _ (λ k h. ap (digit 256 (turn le width (k % width))) (e (k / width) (word-room bytes width k whole h)))
+    table-same bytes _ _ (λ k h. ap (digit 256 (ordered le width (k % width))) (e (k / width) (word-room bytes width k whole h)))

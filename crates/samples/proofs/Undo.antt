@@ -10,7 +10,7 @@ use lib.ListN.{length, take}
 use Rattle.answer.specs.Outcome.{Sound}
 use Rattle.answer.specs.Table.{table}
 use Rattle.answer.specs.declared.Done.the-variants as Done-is
-use Rattle.answer.proofs.Promised.{in-turn, done-sound, sound-front}
+use Rattle.answer.proofs.Promised.{second-over-first, done-sound, sound-front}
 use Rattle.words.specs.Word.{Bytes, modulus}
 use Rattle.words.proofs.Words.{modulus-pos, word-below, plus-below, minus-below, plus-minus, minus-plus}
 use Rattle.samples.specs.Sample.{Strip, Good, alone, wordOf, sample, difference, storedAt}
@@ -103,11 +103,11 @@ module _ (raw old x old′ y : List ℕ) (g : Strip) (predict le out-le : Bool) 
   pub forward-then-convert : Forwarded raw g predict le out-le old Done-is.Done x → Converted (take (length raw) x) g predict out-le le old′ Done-is.Done y → take (length raw) y ≡ raw
   forward-then-convert p q =
       let good = good-strip raw g old (done-sound (convertFaults raw g old) tt tt (sym (p .answers))) in
-      in-turn (length raw) (storedAt (g .width) out-le (difference g predict le raw)) (λ l. storedAt (g .width) le (sample g predict out-le l)) old x old′ y tt tt p q
+      second-over-first (length raw) (storedAt (g .width) out-le (difference g predict le raw)) (λ l. storedAt (g .width) le (sample g predict out-le l)) old x old′ y tt tt p q
       ∙ forward-converted g predict le out-le raw good b
 
   pub convert-then-forward : Converted raw g predict le out-le old Done-is.Done x → Forwarded (take (length raw) x) g predict out-le le old′ Done-is.Done y → take (length raw) y ≡ raw
   convert-then-forward p q =
       let good = good-strip raw g old (done-sound (convertFaults raw g old) tt tt (sym (p .answers))) in
-      in-turn (length raw) (storedAt (g .width) out-le (sample g predict le raw)) (λ l. storedAt (g .width) le (difference g predict out-le l)) old x old′ y tt tt p q
+      second-over-first (length raw) (storedAt (g .width) out-le (sample g predict le raw)) (λ l. storedAt (g .width) le (difference g predict out-le l)) old x old′ y tt tt p q
       ∙ converted-forward g predict le out-le raw good b

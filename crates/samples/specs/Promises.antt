@@ -37,11 +37,6 @@ abbrev pub Forwarded : List ℕ → Strip → Bool → Bool → Bool → List �
 Forwarded raw g predict le out-le old answer new =
     Promise (unless (convertFaults raw g old) tt) (table (length raw) (storedAt (g .width) out-le (difference g predict le raw))) old (doneOutcome answer) new
 
--- whether two byte orders differ
-abbrev pub apart : Bool → Bool → Bool
-apart true b = not b
-apart false b = b
-
 -- the words of a strip in another byte order
 abbrev pub reorderFaults : List ℕ → ℕ → List ℕ → List Fault
 reorderFaults raw width old =

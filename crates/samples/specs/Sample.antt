@@ -7,7 +7,7 @@ use mathlib.Core.List.{List}
 use lib.Dec.{ltb}
 use Rattle.answer.specs.Outcome.{pick}
 use Rattle.words.specs.Digits.{digit}
-use Rattle.words.specs.Word.{turn, wordAt, modulus, plus, minus}
+use Rattle.words.specs.Word.{ordered, wordAt, modulus, plus, minus}
 
 -- a strip's geometry: bytes of a row, channels, and bytes of a word
 pub record Strip : Type 0 where
@@ -42,7 +42,7 @@ difference g predict le raw n =
 
 -- byte k of the words v, stored in a byte order: digit k mod width, turned for big-endian, of word k / width
 abbrev pub storedAt : ℕ → Bool → (ℕ → ℕ) → ℕ → ℕ
-storedAt width le v k = digit 256 (turn le width (k % width)) (v (k / width))
+storedAt width le v k = digit 256 (ordered le width (k % width)) (v (k / width))
 
 -- what the strip check has shown of a strip of so many bytes
 pub record Good (bytes : ℕ) (g : Strip) : Type 0 where

@@ -1,8 +1,9 @@
 use answer::Done;
 use answer::Refusal;
 ghost use mathlib.Core.Path.{_≡_};
+ghost use Rattle.answer.specs.Outcome.{xor};
 ghost use Rattle.samples.specs.Sample.{strip};
-ghost use Rattle.samples.specs.Promises.{StripChecked, apart, Reordered};
+ghost use Rattle.samples.specs.Promises.{StripChecked, Reordered};
 
 // Whether a strip of so many bytes has this geometry: whole rows, each of whole groups of a word for each channel.
 pub fn check_strip(raw_len: usize, row_bytes: usize, channels: usize, width: usize) -> Done
@@ -30,7 +31,7 @@ pub fn check_strip(raw_len: usize, row_bytes: usize, channels: usize, width: usi
 }
 
 fn orders_differ(a: bool, b: bool) -> bool
-    ensures { λ r. ⌜ r ≡ apart a b ⌝ }
+    ensures { λ r. ⌜ r ≡ xor a b ⌝ }
 {
     if a { !b } else { b }
 }
@@ -49,7 +50,7 @@ pub fn reorder(raw: &[u8], width: usize, le: bool, out_le: bool, out: &mut [u8])
         return Done::Refused(Refusal::OutputTooSmall);
     }
     if orders_differ(le, out_le) {
-        transport::swap_components(raw, width, out)
+        swaps::swap_components(raw, width, out)
     } else {
         transport::commit_uninit(raw, out)
     }

@@ -1,6 +1,5 @@
 use answer::Done;
 use answer::Refusal;
-pub use samples::check_strip;
 ghost use Rattle.samples.specs.Sample.{strip};
 ghost use Rattle.samples.specs.Promises.{Converted, Forwarded};
 ghost use Rattle.rows.specs.Row.{TransformedInto, Transformed};
@@ -43,7 +42,7 @@ fn checked(
 ) -> Done
     ensures { λ r. ⌜ Transformed (now (raw .entry)) (strip «row_bytes» channels width) predict le «out_le» forward (now (out .entry)) r (now (out .exit)) ⌝ }
 {
-    match check_strip(raw.len(), row_bytes, channels, width) {
+    match samples::check_strip(raw.len(), row_bytes, channels, width) {
         Done::Refused(k) => Done::Refused(k),
         Done::Done => {
             if out.len() < raw.len() {

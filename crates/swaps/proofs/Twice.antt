@@ -8,7 +8,7 @@ use lib.ListN.{length, getD, take}
 use lib.Dec.{eqb}
 use Rattle.answer.specs.Table.{table}
 use Rattle.answer.specs.declared.Done.the-variants as Done-is
-use Rattle.answer.proofs.Promised.{in-turn, done-sound, sound-here, sound-rest}
+use Rattle.answer.proofs.Promised.{second-over-first, done-sound, sound-here, sound-rest}
 use Rattle.answer.proofs.Filling.{table-at, table-same, table-self}
 use Rattle.swaps.specs.Swapped.{mirror, swappedAt, swapFaults, Swapped}
 use Rattle.swaps.proofs.Mirror.{mirror-below, mirror-mirror}
@@ -25,4 +25,4 @@ swap-twice raw old x old′ y width p q =
     let sound = done-sound (swapFaults raw width old) tt tt (sym (p .answers)) in
     let some : 0 < width = omega (arith, eqb-false width 0 (sound-here sound)) in
     let groups : n % width ≡ 0 = eqb-true (n % width) 0 (not-false (eqb (n % width) 0) (sound-here (sound-rest (sound-rest sound)))) in
-    in-turn n (swappedAt raw width) (λ l. swappedAt l width) old x old′ y tt tt p q ∙ swapped-back raw width some groups
+    second-over-first n (swappedAt raw width) (λ l. swappedAt l width) old x old′ y tt tt p q ∙ swapped-back raw width some groups

@@ -9,7 +9,7 @@ use Rattle.answer.proofs.Filling.{length-table, table-at, table-same, table-sel
 use Rattle.words.specs.Digits.{digit}
 use Rattle.words.specs.Word.{Bytes}
 use Rattle.words.proofs.Digits.{digit-below, digit-value, value-digit, value-same}
-use Rattle.transport.specs.Moved.{reversed, Turned}
+use Rattle.transport.specs.Moved.{reversed, Reversed}
 
 -- bit i of a reversed byte is bit 7 - i
 pub reversed-bit : (v i : ℕ) → i < 8 → digit 2 i (reversed v) ≡ digit 2 (7 - i) v
@@ -21,7 +21,7 @@ reversed-reversed v h =
     ∙ value-digit 2 8 v (omega arith)
     ∙ mod-eq-of-lt h
 
-pub reverse-twice : (s x y : List ℕ) → Bytes s → Turned s x → Turned x y → y ≡ s
+pub reverse-twice : (s x y : List ℕ) → Bytes s → Reversed s x → Reversed x y → y ≡ s
 reverse-twice s x y b p q =
     let f : ℕ → ℕ = λ k. reversed (getD s k 0) in
     (rw (p, length-table (length s) f) at q)

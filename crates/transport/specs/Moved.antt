@@ -27,5 +27,5 @@ abbrev pub reversed : ℕ → ℕ
 reversed v = value 2 8 (λ i. digit 2 (7 - i) v)
 
 -- every byte reversed; it never refuses
-abbrev pub Turned : List ℕ → List ℕ → Type 0
-Turned old new = new ≡ table (length old) (λ k. reversed (getD old k 0))
+abbrev pub Reversed : List ℕ → List ℕ → Type 0
+Reversed old new = new ≡ table (length old) (λ k. reversed (getD old k 0))

@@ -1,10 +1,9 @@
 use answer::Done;
 use answer::Refusal;
-pub use swaps::swap_components;
 ghost use mathlib.Core.Path.{_≡_};
 ghost use Prim.Native.Nat.{_≤_};
 ghost use lib.ListN.{length};
-ghost use Rattle.transport.specs.Moved.{Committed, CopiedInto, reversed, Turned};
+ghost use Rattle.transport.specs.Moved.{Committed, CopiedInto, reversed, Reversed};
 
 fn copy(source: &[u8], out: &mut [u8])
     requires { ⌜ length (now source) ≤ length (now out) ⌝ }
@@ -43,7 +42,7 @@ fn reversed_byte(b: u8) -> u8
 
 // Every byte with its bits in the other order, in place.
 pub fn reverse_bits(s: &mut [u8])
-    ensures { λ r. ⌜ Turned (now (s .entry)) (now (s .exit)) ⌝ }
+    ensures { λ r. ⌜ Reversed (now (s .entry)) (now (s .exit)) ⌝ }
 {
     let mut i: usize = 0;
     while i < s.len() {

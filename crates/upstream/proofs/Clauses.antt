@@ -13,7 +13,7 @@ use Rattle.answer.specs.Outcome.{done, refused, pick, Sound, next, none, here, 
 use Rattle.answer.specs.declared.Done.{Done}
 use Rattle.answer.proofs.Promised.{sound-here, sound-rest, sound-front, sound-more, sound-back}
 use Rattle.answer.proofs.Filling.{length-table, table-at, length-stores, stores-at, stores-rest}
-use Rattle.words.specs.Word.{Bytes, turn, wordAt, Put}
+use Rattle.words.specs.Word.{Bytes, ordered, wordAt, Put}
 use Rattle.words.specs.Promises.{served, wordOutcome, loadedOutcome, readFaults, ReadWord, loadWidth, loadFaults, LoadedWord}
 use Rattle.words.specs.declared.Word.{Word}
 use Rattle.words.specs.declared.Word.the-variants as Word-is
@@ -21,7 +21,7 @@ use Rattle.words.specs.declared.Loaded.{Loaded}
 use Rattle.words.specs.declared.Loaded.the-variants as Loaded-is
 use Rattle.words.proofs.Words.{word-below, word-one}
 use Rattle.swaps.specs.Swapped.{swappedAt, swapFaults, Swapped}
-use Rattle.transport.specs.Moved.{commitFaults, Committed, Turned}
+use Rattle.transport.specs.Moved.{commitFaults, Committed, Reversed}
 use Rattle.samples.specs.Sample.{Strip, storedAt}
 use Rattle.samples.specs.Sample as Strips
 use Rattle.samples.specs.Promises.{stripFaults, convertFaults, Converted}
@@ -29,7 +29,7 @@ use Rattle.samples.proofs.Strips.{good-checked, width-fits}
 use Rattle.layout.proofs.Says.{held}
 use Rattle.upstream.specs.Native.{digit, widthOk, RangeOk, modulus, word, converted, Valid, reversed, value}
 use Rattle.upstream.specs.Clause.{Ok, Exactly}
-use Rattle.upstream.proofs.Same.{width-same, turn-same, word16-same, word-same, modulus-same, converted-same, sound-valid, valid-sound, reversed-same}
+use Rattle.upstream.proofs.Same.{width-same, ordered-same, word16-same, word-same, modulus-same, converted-same, sound-valid, valid-sound, reversed-same}
 use Rattle.upstream.proofs.Calls.{ok-sound, sound-ok, sound-value, value-is, refused-for, untouched, bytes-written, rest-kept, length-kept}
 
 -- `width_ok_exec`
@@ -62,7 +62,7 @@ module _ (old : List ℕ) (at width : ℕ) (le : Bool) (v : ℕ) (new : List ℕ
   store-length-kept = rw p (length-stores old at width _)
 
   pub store-bytes : at + width ≤ length old → (j : ℕ) → j < width → getD new (at + j) 0 ≡ digit v (pick le j (width - 1 - j))
-  store-bytes room j h = rw p (stores-at old at width (λ q. digit v (turn le width q)) j h room ∙ ap (digit v) (sym (turn-same le width j)))
+  store-bytes room j h = rw p (stores-at old at width (λ q. digit v (ordered le width q)) j h room ∙ ap (digit v) (sym (ordered-same le width j)))
 
   pub store-rest-kept : (k : ℕ) → (at ≤ k → at + width ≤ k) → getD new k 0 ≡ getD old k 0
   store-rest-kept k away = rw p (stores-rest old at width _ k away)
@@ -96,7 +96,7 @@ module _ (raw : List ℕ) (g : Strip) (predict le out-le : Bool) (old : List ℕ
   convert-rest-kept = rest-kept (convertFaults raw g old) tt (length raw) (storedAt (g .width) out-le (Strips.sample g predict le raw)) old new p
 
 -- `reverse_bits`
-module _ (old new : List ℕ) (p : Turned old new) where
+module _ (old new : List ℕ) (p : Reversed old new) where
   pub reverse-length-kept : length new ≡ length old
   reverse-length-kept = rw p (length-table (length old) _)
 

@@ -29,7 +29,7 @@ use Rattle.layout.proofs.Placed.{scratch-limited}
 use Rattle.layout.proofs.Theorems as Theorems
 use Rattle.pixels.specs.Render.{renderFaults, Rendered}
 use Rattle.pixels.specs.Render as Render
-use Rattle.picture.proofs.Same as Planes
+use Rattle.pixels.proofs.Same as Planes
 use Rattle.upstream.specs.Layout.{sourceIndex, converted}
 use Rattle.upstream.specs.Clause.{Ok, Exactly}
 use Rattle.upstream.proofs.Same.{source-index-same, layout-converted-same, record-sound-valid, valid-record-sound}

@@ -11,7 +11,7 @@ use Rattle.transport.specs.Moved.{reversed}
 use Rattle.samples.specs.Sample.{Strip, strip, sample, difference, storedAt}
 use Rattle.damage.specs.Marks.{struckAt, marked, markByte, counted}
 use Rattle.layout.specs.declared.RasterLayout.{RasterLayout}
-use Rattle.layout.specs.Layout.{fields, completed, encodedWidth, planeChannels, planes, planeLength, scratchLength, outputLength, colours, turned, packedIndex, plainIndex}
+use Rattle.layout.specs.Layout.{fields, completed, encodedWidth, planeChannels, planes, planeLength, scratchLength, outputLength, colours, highFirst, packedIndex, plainIndex}
 use Rattle.pixels.specs.Render.{source, paletteIndex, straightened, plainByte, converted}
 
 pub record Case : Type 0 where
@@ -96,5 +96,5 @@ computeds [] = []
 computeds (c ∷ cs) = c .computed ∷ computeds cs
 
 pub lettered : expecteds cases ≡ computeds cases
-unfolding cases sample difference struckAt marked encodedWidth planeChannels planes planeLength scratchLength outputLength colours turned packedIndex plainIndex straightened plainByte converted
+unfolding cases sample difference struckAt marked encodedWidth planeChannels planes planeLength scratchLength outputLength colours highFirst packedIndex plainIndex straightened plainByte converted
 lettered = refl

@@ -10,11 +10,11 @@ use native.Mathlib.Omega.{arith}
 use borrow.Author.Tests.{eq-eqb, ne-eqb, eqb-false, not-false, ltb-true, ltb-false, le-ltb}
 use lib.ListN.{length}
 use lib.Dec.{eqb, ltb}
-use Rattle.answer.specs.Outcome.{pick, Sound, none, next, done}
+use Rattle.answer.specs.Outcome.{pick, Sound, none, next, done, xor}
 use Rattle.answer.proofs.Promised.{sound-here, sound-rest, finishing}
 use Rattle.words.specs.Digits as Digits
 use Rattle.words.specs.Word as Word
-use Rattle.words.specs.Word.{wordAt, turn}
+use Rattle.words.specs.Word.{wordAt, ordered}
 use Rattle.words.specs.Promises.{served}
 use Rattle.words.proofs.Words.{word-one}
 use Rattle.words.proofs.Served.{OneOf, served-one}
@@ -28,7 +28,7 @@ use Rattle.layout.proofs.Says.{held}
 use Rattle.layout.proofs.Theorems.{record-valid, valid-accepted, answered-sound}
 use Rattle.pixels.specs.Render as Render
 use Rattle.pixels.specs.Render.{straightened, plainByte}
-use Rattle.samples.specs.Promises.{apart, stripFaults}
+use Rattle.samples.specs.Promises.{stripFaults}
 use Rattle.samples.proofs.Strips.{good-checked}
 use Rattle.upstream.specs.Clause.{Exactly}
 use Rattle.upstream.specs.Native.{word16, word32, digit, widthOk, modulus, word, first, sampleWithin, sample, converted, reversed, Valid}
@@ -90,9 +90,9 @@ modulus-same width e = by (served-one width (sym (width-same width) ∙ e))
 pub digit-same : (v p : ℕ) → digit v p ≡ Digits.digit 256 p v
 digit-same v p = refl
 
-pub turn-same : (le : Bool) (width p : ℕ) → pick le p (width - 1 - p) ≡ turn le width p
-turn-same true width p = refl
-turn-same false width p = refl
+pub ordered-same : (le : Bool) (width p : ℕ) → pick le p (width - 1 - p) ≡ ordered le width p
+ordered-same true width p = refl
+ordered-same false width p = refl
 
 -- `sample` meets the source's equation, on every input
 module _ (s : List ℕ) (row ch bytes : ℕ) (le predict : Bool) where
@@ -173,7 +173,7 @@ module _ (g : Strip) (predict le : Bool) (raw : List ℕ) (ok : widthOk (g .widt
   sample-same n = within-same n n
 
   pub converted-same : (out-le : Bool) (k : ℕ) → converted raw (g .row / g .width) (g .channels) (g .width) le predict out-le k ≡ storedAt (g .width) out-le (Strips.sample g predict le raw) k
-  converted-same out-le k = rw (sample-same (k / g .width), turn-same out-le (g .width) (k % g .width))
+  converted-same out-le k = rw (sample-same (k / g .width), ordered-same out-le (g .width) (k % g .width))
 
 -- the strip's `valid` holds exactly where our check finds no fault
 pub sound-valid : (raw : List ℕ) (g : Strip) → Sound (stripFaults (length raw) g) → Valid raw (g .row) (g .channels) (g .width)
@@ -217,14 +217,14 @@ reversed-same v = omega arith
 
 -- layouts
 pub source-index-same : (l : RasterLayout) (k : ℕ) → Layout.sourceIndex l k ≡ Ours.sourceIndex l k
-unfolding Layout.sourceIndex Ours.packedIndex Ours.plainIndex Ours.turned
+unfolding Layout.sourceIndex Ours.packedIndex Ours.plainIndex Ours.highFirst
 source-index-same l k = refl
 
 pub palette-index-same : (l : RasterLayout) (k byte : ℕ) → Layout.paletteIndex l k byte ≡ Render.paletteIndex l (k / 3 % l .w) byte
 unfolding Layout.paletteIndex
 palette-index-same l k byte = refl
 
-unequal-same : (a b : Bool) → unequal a b ≡ apart a b
+unequal-same : (a b : Bool) → unequal a b ≡ xor a b
 unequal-same true true = refl
 unequal-same true false = refl
 unequal-same false true = refl
@@ -235,7 +235,7 @@ unfolding Layout.straightColor straightened
 straight-color-same v a multiplied white = refl
 
 pub layout-converted-same : (l : RasterLayout) (s raw : List ℕ) (k : ℕ) → Layout.converted l s raw k ≡ Render.converted l s raw k
-unfolding Layout.converted Layout.paletteIndex Layout.straightColor Render.converted plainByte straightened Layout.sourceIndex Ours.packedIndex Ours.plainIndex Ours.turned
+unfolding Layout.converted Layout.paletteIndex Layout.straightColor Render.converted plainByte straightened Layout.sourceIndex Ours.packedIndex Ours.plainIndex Ours.highFirst
 layout-converted-same l s raw k = rw (word16-same, unequal-same)
 
 -- the source's differences are never below 0 on what it admits, so that natural numbers serve: going back, a byte's place in its word, a byte's place

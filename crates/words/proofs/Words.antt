@@ -8,24 +8,24 @@ use native.Mathlib.Nat.{add-zero, div-one, one-le-pow, mod-lt, mod-eq-of-lt, mod
 use native.Mathlib.Omega.{arith}
 use lib.ListN.{getD}
 use Rattle.words.specs.Digits.{digit}
-use Rattle.words.specs.Word.{turn, Bytes, wordAt, backwards, modulus, plus, minus}
+use Rattle.words.specs.Word.{ordered, Bytes, wordAt, backwards, modulus, plus, minus}
 use Rattle.words.proofs.Digits.{value-same, value-below, digit-below, digit-value, value-digit}
 
-pub turn-below : (le : Bool) (width p : ℕ) → p < width → turn le width p < width
-turn-below true width p h = h
-turn-below false width p h = omega arith
+pub ordered-below : (le : Bool) (width p : ℕ) → p < width → ordered le width p < width
+ordered-below true width p h = h
+ordered-below false width p h = omega arith
 
 -- turning twice is nothing
-pub turn-turn : (le : Bool) (width p : ℕ) → p < width → turn le width (turn le width p) ≡ p
-turn-turn true width p h = refl
-turn-turn false width p h = omega arith
+pub ordered-twice : (le : Bool) (width p : ℕ) → p < width → ordered le width (ordered le width p) ≡ p
+ordered-twice true width p h = refl
+ordered-twice false width p h = omega arith
 
 pub modulus-pos : (width : ℕ) → 0 < modulus width
 modulus-pos width = one-le-pow width 256 (omega arith)
 
 -- a word is below 256^width
 pub word-below : (s : List ℕ) (at width : ℕ) (le : Bool) → Bytes s → wordAt s at width le < modulus width
-word-below s at width le b = value-below 256 width (λ p. getD s (at + turn le width p) 0) (λ p h. b (at + turn le width p))
+word-below s at width le b = value-below 256 width (λ p. getD s (at + ordered le width p) 0) (λ p h. b (at + ordered le width p))
 
 -- a word of one byte is that byte
 pub word-one : (s : List ℕ) (at : ℕ) (le : Bool) → wordAt s at 1 le ≡ getD s at 0
@@ -33,33 +33,33 @@ word-one s at true = rw (add-zero at) (omega arith)
 word-one s at false = rw (add-zero at) (omega arith)
 
 -- and its one digit is that byte
-pub digit-one : (le : Bool) (v : ℕ) → v < 256 → digit 256 (turn le 1 0) v ≡ v
+pub digit-one : (le : Bool) (v : ℕ) → v < 256 → digit 256 (ordered le 1 0) v ≡ v
 digit-one true v h = rw div-one (mod-eq-of-lt h)
 digit-one false v h = rw div-one (mod-eq-of-lt h)
 
 -- a word's digits are its bytes
-pub word-digit : (s : List ℕ) (at width : ℕ) (le : Bool) → Bytes s → (p : ℕ) → p < width → digit 256 (turn le width p) (wordAt s at width le) ≡ getD s (at + p) 0
+pub word-digit : (s : List ℕ) (at width : ℕ) (le : Bool) → Bytes s → (p : ℕ) → p < width → digit 256 (ordered le width p) (wordAt s at width le) ≡ getD s (at + p) 0
 word-digit s at width le b p h =
-    digit-value 256 width (λ q. getD s (at + turn le width q) 0) (λ q l. b (at + turn le width q)) (turn le width p) (turn-below le width p h)
-    ∙ ap (λ (q : ℕ). getD s (at + q) 0) (turn-turn le width p h)
+    digit-value 256 width (λ q. getD s (at + ordered le width q) 0) (λ q l. b (at + ordered le width q)) (ordered le width p) (ordered-below le width p h)
+    ∙ ap (λ (q : ℕ). getD s (at + q) 0) (ordered-twice le width p h)
 
 -- bytes that are v's digits make the word v modulo 256^width
-pub digits-word : (s : List ℕ) (at width : ℕ) (le : Bool) (v : ℕ) → ((p : ℕ) → p < width → getD s (at + p) 0 ≡ digit 256 (turn le width p) v) → wordAt s at width le ≡ v % modulus width
+pub digits-word : (s : List ℕ) (at width : ℕ) (le : Bool) (v : ℕ) → ((p : ℕ) → p < width → getD s (at + p) 0 ≡ digit 256 (ordered le width p) v) → wordAt s at width le ≡ v % modulus width
 digits-word s at width le v e =
-    value-same 256 width _ _ (λ p h. e (turn le width p) (turn-below le width p h) ∙ ap (λ (q : ℕ). digit 256 q v) (turn-turn le width p h))
+    value-same 256 width _ _ (λ p h. e (ordered le width p) (ordered-below le width p h) ∙ ap (λ (q : ℕ). digit 256 q v) (ordered-twice le width p h))
     ∙ value-digit 256 width v (omega arith)
 
 -- its digits are those of the word, backwards
-pub backwards-digit : (width v p : ℕ) → p < width → digit 256 p (backwards width v) ≡ digit 256 (turn false width p) v
-backwards-digit width v p h = digit-value 256 width (λ q. digit 256 (turn false width q) v) (λ q l. digit-below 256 (turn false width q) v (omega arith)) p h
+pub backwards-digit : (width v p : ℕ) → p < width → digit 256 p (backwards width v) ≡ digit 256 (ordered false width p) v
+backwards-digit width v p h = digit-value 256 width (λ q. digit 256 (ordered false width q) v) (λ q l. digit-below 256 (ordered false width q) v (omega arith)) p h
 
 -- and is the word of the same bytes in the other order
 pub word-backwards : (s : List ℕ) (at width : ℕ) → Bytes s → backwards width (wordAt s at width true) ≡ wordAt s at width false
-word-backwards s at width b = value-same 256 width _ _ (λ p h. word-digit s at width true b (turn false width p) (turn-below false width p h))
+word-backwards s at width b = value-same 256 width _ _ (λ p h. word-digit s at width true b (ordered false width p) (ordered-below false width p h))
 
 -- bytes that agree make one word
 pub word-same : (s t : List ℕ) (i j width : ℕ) (le : Bool) → ((p : ℕ) → p < width → getD s (i + p) 0 ≡ getD t (j + p) 0) → wordAt s i width le ≡ wordAt t j width le
-word-same s t i j width le e = value-same 256 width _ _ (λ p h. e (turn le width p) (turn-below le width p h))
+word-same s t i j width le e = value-same 256 width _ _ (λ p h. e (ordered le width p) (ordered-below le width p h))
 
 pub plus-below : (width a b : ℕ) → plus width a b < modulus width
 plus-below width a b = mod-lt (a + b) (modulus-pos width)

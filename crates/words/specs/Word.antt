@@ -9,9 +9,9 @@ use Rattle.answer.specs.Table.{stores}
 use Rattle.words.specs.Digits.{digit, value}
 
 -- where, among a word's bytes, its digit p stands; and which digit byte p is
-abbrev pub turn : Bool → ℕ → ℕ → ℕ
-turn true width p = p
-turn false width p = width - 1 - p
+abbrev pub ordered : Bool → ℕ → ℕ → ℕ
+ordered true width p = p
+ordered false width p = width - 1 - p
 
 -- a list of bytes
 abbrev pub Bytes : List ℕ → Type 0
@@ -19,15 +19,15 @@ Bytes s = (i : ℕ) → getD s i 0 < 256
 
 -- the word of the `width` bytes at a place
 abbrev pub wordAt : List ℕ → ℕ → ℕ → Bool → ℕ
-wordAt s at width le = value 256 width (λ p. getD s (at + turn le width p) 0)
+wordAt s at width le = value 256 width (λ p. getD s (at + ordered le width p) 0)
 
 -- a word's digits stored at a place, in a byte order
 abbrev pub Put : List ℕ → ℕ → ℕ → Bool → ℕ → List ℕ → Type 0
-Put old at width le v new = new ≡ stores old at width (λ p. digit 256 (turn le width p) v)
+Put old at width le v new = new ≡ stores old at width (λ p. digit 256 (ordered le width p) v)
 
 -- the word whose bytes are those of v, backwards
 abbrev pub backwards : ℕ → ℕ → ℕ
-backwards width v = value 256 width (λ p. digit 256 (turn false width p) v)
+backwards width v = value 256 width (λ p. digit 256 (ordered false width p) v)
 
 abbrev pub modulus : ℕ → ℕ
 modulus width = 256 ^ width

@@ -10,10 +10,10 @@ use Rattle.answer.specs.Outcome.{pick}
 use Rattle.answer.specs.Table.{filled, stores}
 use Rattle.answer.proofs.Filling.{stores-filled, length-filled, filled-all}
 use Rattle.swaps.proofs.Mirror.{group-room}
-use Rattle.layout.specs.Layout.{turned}
+use Rattle.layout.specs.Layout.{highFirst}
 use Rattle.pixels.proofs.Places.{group-of, item-of}
 use Rattle.writing.specs.Parts.{channelAt, ChannelFits, ChannelInto}
-use Rattle.pixels.proofs.Turned.{turned-one, turned-two}
+use Rattle.pixels.proofs.HighFirst.{high-first-one, high-first-two}
 
 -- n pixels are done
 pub record Channelwise (picture : List ℕ) (first stride bytes : ℕ) (le : Bool) (old : List ℕ) (n from at : ℕ) (out : List ℕ) : Type 0 where
@@ -45,10 +45,10 @@ module _ {picture : List ℕ} {first stride bytes : ℕ} {le : Bool} {old : List
         let one = one-mul stride in
         (omega arith, omega arith)
 
-    byte-at : (p : ℕ) → p < bytes → getD picture (from + turned bytes le p) 0 ≡ channelAt picture first stride bytes le (at + p)
+    byte-at : (p : ℕ) → p < bytes → getD picture (from + highFirst bytes le p) 0 ≡ channelAt picture first stride bytes le (at + p)
     byte-at p h = rw (is .at-is, is .from-is, group-of n bytes h, item-of n bytes h)
 
-    pixel-next : (new : List ℕ) → new ≡ stores out at bytes (λ p. getD picture (from + turned bytes le p) 0) → Channelwise picture first stride bytes le old (n + 1) (from + stride) (at + bytes) new
+    pixel-next : (new : List ℕ) → new ≡ stores out at bytes (λ p. getD picture (from + highFirst bytes le p) 0) → Channelwise picture first stride bytes le old (n + 1) (from + stride) (at + bytes) new
     pixel-next new e =
         let now = e ∙ stores-filled (channelAt picture first stride bytes le) _ old out at bytes byte-at pixel-room (is .so-far) in
         record {
@@ -68,7 +68,7 @@ module _ {picture : List ℕ} {first stride bytes : ℕ} {le : Bool} {old : List
 -- the stores of a one-byte channel, and of a two-byte one
 module _ {picture : List ℕ} {first stride : ℕ} {le : Bool} {old : List ℕ} {n from at : ℕ} {out : List ℕ} where
   pub pixel-one : ChannelFits picture first stride 1 old → Channelwise picture first stride 1 le old n from at out → at < length old → Channelwise picture first stride 1 le old (n + 1) (from + stride) (at + 1) (set out at (getD picture from 0))
-  pixel-one fits is more = pixel-next fits (omega arith) is more _ (rw (turned-one, add-zero at, add-zero from))
+  pixel-one fits is more = pixel-next fits (omega arith) is more _ (rw (high-first-one, add-zero at, add-zero from))
 
   pub pixel-two : ChannelFits picture first stride 2 old → Channelwise picture first stride 2 le old n from at out → at < length old → (high : ℕ) → high ≡ pick le 1 0 → Channelwise picture first stride 2 le old (n + 1) (from + stride) (at + 2) (set (set out at (getD picture (from + high) 0)) (at + 1) (getD picture (from + (1 - high)) 0))
-  pixel-two fits is more high which = pixel-next fits (omega arith) is more _ (rw (turned-two le .0, turned-two le .1, which, add-zero))
+  pixel-two fits is more high which = pixel-next fits (omega arith) is more _ (rw (high-first-two le .0, high-first-two le .1, which, add-zero))

@@ -16,22 +16,22 @@ use Rattle.words.specs.Word.{Bytes}
 use Rattle.samples.specs.Sample.{wordOf, storedAt}
 use Rattle.samples.specs.Promises.{reorderFaults, Reordered}
 use Rattle.layout.specs.declared.RasterLayout.{RasterLayout}
-use Rattle.layout.specs.Layout.{turned}
+use Rattle.layout.specs.Layout.{highFirst}
 use Rattle.pixels.specs.Render.{flipped}
 use Rattle.pixels.specs.Finish.{Inverted, straightAt, straightFaults, Straightened, WholePixels}
-use Rattle.pixels.proofs.Turned.{narrow-served, stored-turned}
-use Rattle.pixels.specs.Planes.{turnsOver}
-use Rattle.writing.specs.Parts.{TurnedOver, PlainFits, PlainRow}
+use Rattle.pixels.proofs.HighFirst.{narrow-served, stored-high-first}
+use Rattle.pixels.specs.Planes.{flipsChannel}
+use Rattle.writing.specs.Parts.{RowFlipped, PlainFits, PlainRow}
 
 -- white, with no alpha, beside alpha, and none
 module _ (l : RasterLayout) (old : List ℕ) where
-  pub over-none : l .white ≡ false → TurnedOver l old old
+  pub over-none : l .white ≡ false → RowFlipped l old old
   over-none e = rw e (sym (table-self old))
 
-  pub over-all : l .white ≡ true → l .alpha ≡ 0 → (new : List ℕ) → Inverted old new → TurnedOver l old new
+  pub over-all : l .white ≡ true → l .alpha ≡ 0 → (new : List ℕ) → Inverted old new → RowFlipped l old new
   over-all e z new p = rw (e, eq-eqb (l .alpha) 0 z) p
 
-  pub over-colours : l .white ≡ true → (l .alpha ≡ 0 → ⊥) → WholePixels old (l .ch) → (answer : Done) (new : List ℕ) → Straightened old (l .ch) false true answer new → TurnedOver l old new
+  pub over-colours : l .white ≡ true → (l .alpha ≡ 0 → ⊥) → WholePixels old (l .ch) → (answer : Done) (new : List ℕ) → Straightened old (l .ch) false true answer new → RowFlipped l old new
   over-colours e z whole answer new p =
       finished (straightFaults old (l .ch)) tt (length old) (straightAt old (l .ch) false true) old new sound p
       ∙ filled-all (length old) (straightAt old (l .ch) false true) old (omega arith)
@@ -62,12 +62,12 @@ module _ {l : RasterLayout} {row old : List ℕ} (fits : PlainFits l row old) (b
     pub ordered-whole : WholePixels mid (l .ch)
     ordered-whole = record { some = fits .some; whole = ap (λ (n : ℕ). n % l .ch) ordered-length ∙ fits .pixels }
 
-    ordered-at : (k : ℕ) → k < length row → getD mid k 0 ≡ getD row (turned (l .bytes) (l .le) k) 0
+    ordered-at : (k : ℕ) → k < length row → getD mid k 0 ≡ getD row (highFirst (l .bytes) (l .le) k) 0
     ordered-at k h =
-        ap (λ (m : List ℕ). getD m k 0) ordered ∙ table-at (length row) _ k h ∙ stored-turned row b (fits .width) false (l .le) k
+        ap (λ (m : List ℕ). getD m k 0) ordered ∙ table-at (length row) _ k h ∙ stored-high-first row b (fits .width) false (l .le) k
 
-    pub plain-done : (new : List ℕ) → TurnedOver l mid new → PlainRow l row old new
+    pub plain-done : (new : List ℕ) → RowFlipped l mid new → PlainRow l row old new
     plain-done new q =
         q
-        ∙ ap (λ (n : ℕ). table n (λ j. flipped (turnsOver l (j % l .ch)) (getD mid j 0))) (ordered-length ∙ sym (fits .room))
-        ∙ table-same (length old) _ _ (λ j h. ap (flipped (turnsOver l (j % l .ch))) (ordered-at j (omega (arith, fits .room))))
+        ∙ ap (λ (n : ℕ). table n (λ j. flipped (flipsChannel l (j % l .ch)) (getD mid j 0))) (ordered-length ∙ sym (fits .room))
+        ∙ table-same (length old) _ _ (λ j h. ap (flipped (flipsChannel l (j % l .ch))) (ordered-at j (omega (arith, fits .room))))

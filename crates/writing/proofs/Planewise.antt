@@ -12,7 +12,7 @@ use Rattle.answer.specs.Outcome.{Sound}
 use Rattle.answer.specs.Table.{table, filled}
 use Rattle.answer.proofs.Filling.{table-at, table-same, length-table, part, length-part, part-filled, length-filled}
 use Rattle.layout.specs.declared.RasterLayout.{RasterLayout}
-use Rattle.layout.specs.Layout.{given, byteLimit, recordFaults, packed, turned}
+use Rattle.layout.specs.Layout.{given, byteLimit, recordFaults, packed, highFirst}
 use Rattle.layout.proofs.Says.{clash, refuted, up, down, both}
 use Rattle.layout.proofs.Accepted.{up-to-eight, alpha-bytes, mapped-together}
 use Rattle.layout.proofs.Whole.{record-accepted}
@@ -20,15 +20,15 @@ use Rattle.layout.proofs.Sizes.{bytes-few}
 use Rattle.layout.proofs.Placed.{output-is, scratch-limited}
 use Rattle.pixels.specs.Render.{flipped}
 use Rattle.pixels.specs.Finish.{Inverted}
-use Rattle.pixels.specs.Planes.{turnsOver, placeIndex, flips, written}
+use Rattle.pixels.specs.Planes.{flipsChannel, placeIndex, flips, written}
 use Rattle.pixels.proofs.Places.{group-of, item-of, plane-is, apart-place}
 use Rattle.pixels.proofs.Undo.{not-picked}
 use Rattle.writing.specs.Parts.{planar, channelAt, ChannelFits, ChannelInto, PlaneOf, PlaneWritten, Apart, WrittenInto}
-use Rattle.pixels.proofs.Turned.{one-or-two, turned-in}
+use Rattle.pixels.proofs.HighFirst.{one-or-two, high-first-in}
 
-module _ (l : RasterLayout) (s : Sound (recordFaults l)) (narrow : eqb (l .bytes) 8 ≡ false) (apart : planar l ≡ true) where
+module _ (l : RasterLayout) (s : Sound (recordFaults l)) (narrow : eqb (l .bytes) 8 ≡ false) (xor : planar l ≡ true) where
   separated : (l .separate ≡ true) × (eqb (l .slots) 8 ≡ false)
-  separated = both (up (l .separate)) (down (eqb (l .slots) 8)) .tells apart
+  separated = both (up (l .separate)) (down (eqb (l .slots) 8)) .tells xor
 
   plain : packed l ≡ false
   plain =
@@ -47,7 +47,7 @@ module _ (l : RasterLayout) (s : Sound (recordFaults l)) (narrow : eqb (l .bytes
       (ap (λ (n : ℕ). n % l .bytes) plane ∙ mul-mod-left (l .w * l .h) (l .bytes), ap (λ (n : ℕ). n / l .bytes) plane ∙ rw add-zero at (group-of (l .w * l .h) (l .bytes) {b = 0} bytes-some))
 
   module _ (picture : List ℕ) (c : ℕ) (channel : c < l .ch) where
-    place-of : (j : ℕ) → j < l .«plane_len» → placeIndex l (c * l .«plane_len» + j) ≡ c * l .bytes + j / l .bytes * (l .ch * l .bytes) + turned (l .bytes) (l .le) (j % l .bytes)
+    place-of : (j : ℕ) → j < l .«plane_len» → placeIndex l (c * l .«plane_len» + j) ≡ c * l .bytes + j / l .bytes * (l .ch * l .bytes) + highFirst (l .bytes) (l .le) (j % l .bytes)
     place-of j h =
         let p = j / l .bytes in
         let b = j % l .bytes in
@@ -55,12 +55,12 @@ module _ (l : RasterLayout) (s : Sound (recordFaults l)) (narrow : eqb (l .bytes
         let pixel : p < l .w * l .h = div-lt-iff-lt-mul bytes-some .1 (omega (arith, plane)) in
         ap (λ (n : ℕ). placeIndex l (c * l .«plane_len» + n)) (sym (div-add-mod' j (l .bytes)))
         ∙ apart-place l s plain (separated .0) p c b pixel channel byte
-        ∙ ap (λ (n : ℕ). p * (l .ch * l .bytes) + n) (turned-in (l .bytes) (one-or-two l s narrow) (l .le) c b)
+        ∙ ap (λ (n : ℕ). p * (l .ch * l .bytes) + n) (high-first-in (l .bytes) (one-or-two l s narrow) (l .le) c b)
         ∙ omega arith
 
     -- white turns over all of a plane or none of it
-    over-plane : (j : ℕ) → j < l .«plane_len» → flips l (placeIndex l (c * l .«plane_len» + j)) ≡ turnsOver l c
-    unfolding turned
+    over-plane : (j : ℕ) → j < l .«plane_len» → flips l (placeIndex l (c * l .«plane_len» + j)) ≡ flipsChannel l c
+    unfolding highFirst
     over-plane j h = by (eqb (l .alpha) 0) refl
       where
         by : (b : Bool) → eqb (l .alpha) 0 ≡ b → (l .white && (b || not (eqb (placeIndex l (c * l .«plane_len» + j) % l .ch) (l .ch - 1)))) ≡ (l .white && (b || not (eqb c (l .ch - 1))))
@@ -70,12 +70,12 @@ module _ (l : RasterLayout) (s : Sound (recordFaults l)) (narrow : eqb (l .bytes
             let here : placeIndex l (c * l .«plane_len» + j) ≡ j * l .ch + c = place-of j h ∙ rw one (rw (mul-one (l .ch), div-one j) (omega arith)) in
             rw (here, item-of j (l .ch) channel)
 
-    plane-byte : (j : ℕ) → j < l .«plane_len» → written l picture (c * l .«plane_len» + j) ≡ flipped (turnsOver l c) (channelAt picture (c * l .bytes) (l .ch * l .bytes) (l .bytes) (l .le) j)
+    plane-byte : (j : ℕ) → j < l .«plane_len» → written l picture (c * l .«plane_len» + j) ≡ flipped (flipsChannel l c) (channelAt picture (c * l .bytes) (l .ch * l .bytes) (l .bytes) (l .le) j)
     unfolding written
     plane-byte j h =
         not-picked _ _ (separated .1)
         ∙ ap (λ (b : Bool). flipped b (getD picture (placeIndex l (c * l .«plane_len» + j)) 0)) (over-plane j h)
-        ∙ ap (λ (k : ℕ). flipped (turnsOver l c) (getD picture k 0)) (place-of j h)
+        ∙ ap (λ (k : ℕ). flipped (flipsChannel l c) (getD picture k 0)) (place-of j h)
 
     module _ (all : l .«output_len» ≤ length picture) (old : List ℕ) (room : length old ≡ l .«plane_len») where
       pub channel-fits : ChannelFits picture (c * l .bytes) (l .ch * l .bytes) (l .bytes) old
@@ -89,10 +89,10 @@ module _ (l : RasterLayout) (s : Sound (recordFaults l)) (narrow : eqb (l .bytes
           }
 
       module _ (mid : List ℕ) (p : ChannelInto picture (c * l .bytes) (l .ch * l .bytes) (l .bytes) (l .le) old mid) where
-        pub plane-kept : turnsOver l c ≡ false → PlaneWritten l picture c old mid
+        pub plane-kept : flipsChannel l c ≡ false → PlaneWritten l picture c old mid
         plane-kept e = p ∙ table-same (length old) _ _ (λ j h. sym (plane-byte j (omega arith) ∙ rw e))
 
-        pub plane-over : turnsOver l c ≡ true → (new : List ℕ) → Inverted mid new → PlaneWritten l picture c old new
+        pub plane-over : flipsChannel l c ≡ true → (new : List ℕ) → Inverted mid new → PlaneWritten l picture c old new
         plane-over e new q =
             let f = channelAt picture (c * l .bytes) (l .ch * l .bytes) (l .bytes) (l .le) in
             let long : length mid ≡ length old = ap length p ∙ length-table (length old) f in

@@ -16,20 +16,20 @@ use Rattle.answer.proofs.Promised.{finished}
 use Rattle.answer.proofs.Filling.{table-same, part, part-at, length-part, part-filled, length-filled, filled-all}
 use Rattle.words.proofs.Digits.{value-same}
 use Rattle.layout.specs.declared.RasterLayout.{RasterLayout}
-use Rattle.layout.specs.Layout.{given, sideLimit, byteLimit, encodedWidth, planeChannels, recordFaults, packed, turned}
+use Rattle.layout.specs.Layout.{given, sideLimit, byteLimit, encodedWidth, planeChannels, recordFaults, packed, highFirst}
 use Rattle.layout.proofs.Says.{clash, refuted, up, down, both}
 use Rattle.layout.proofs.Accepted.{bilevel, alpha-bytes}
 use Rattle.layout.proofs.Whole.{record-accepted, record-agreed}
 use Rattle.layout.proofs.Sizes.{bytes-few, encoded-side}
 use Rattle.layout.proofs.Placed.{stride-some, row-is, plain-one, scratch-limited}
 use Rattle.pixels.specs.Render.{rowBytes, planeRow, flipped}
-use Rattle.pixels.specs.Planes.{turnsOver, placeIndex, flips, bilevelBit, bilevelPlane, written}
+use Rattle.pixels.specs.Planes.{flipsChannel, placeIndex, flips, bilevelBit, bilevelPlane, written}
 use Rattle.pixels.proofs.Places.{output-rows, group-of, item-of, together-is, together-place}
 use Rattle.pixels.proofs.Undo.{picked, not-picked, bilevel-scratch}
 use Rattle.packed.specs.Rows.{eighths, packedAt, packFaults, PackRow}
 use Rattle.pixels.specs.Render.{OneOrTwo}
 use Rattle.writing.specs.Parts.{planar, PlainFits, PlainRow, RowOf, rowAt, RowWritten, Together, WrittenInto}
-use Rattle.pixels.proofs.Turned.{one-or-two, turned-in, turned-below}
+use Rattle.pixels.proofs.HighFirst.{one-or-two, high-first-in, high-first-below}
 
 -- a row has whole words and whole pixels
 row-words : (l : RasterLayout) → rowBytes l % l .bytes ≡ 0
@@ -120,7 +120,7 @@ module _ (l : RasterLayout) (s : Sound (recordFaults l)) (bare : l .palette ≡ 
             rw (bilevel-row eight .1, item-of y (l .«encoded_width») inner, group-of y (l .«encoded_width») inner, long) (by (8 * j + (7 - p)) (ltb (8 * j + (7 - p)) (l .w)) refl)
 
   -- a row of samples
-  module _ (plain : packed l ≡ false) (apart : l .separate ≡ false) (narrow : eqb (l .bytes) 8 ≡ false) where
+  module _ (plain : packed l ≡ false) (xor : l .separate ≡ false) (narrow : eqb (l .bytes) 8 ≡ false) where
     several : eqb (l .slots) 8 ≡ false
     several = rw (plain-one l s plain .1)
 
@@ -128,28 +128,28 @@ module _ (l : RasterLayout) (s : Sound (recordFaults l)) (bare : l .palette ≡ 
     width = one-or-two l s narrow
 
     -- in one plane a place takes the byte of the same place, but for the order of a word's bytes
-    place-here : (i : ℕ) → placeIndex l i ≡ turned (l .bytes) (l .le) i
+    place-here : (i : ℕ) → placeIndex l i ≡ highFirst (l .bytes) (l .le) i
     place-here i =
         let stride = l .ch * l .bytes in
         let whole : i / stride * stride + i % stride ≡ i = div-add-mod' i stride in
         let words-of : i / stride * stride ≡ i / stride * l .ch * l .bytes = sym (mul-assoc (i / stride) (l .ch) (l .bytes)) in
         ap (placeIndex l) (sym whole)
-        ∙ together-place l s plain apart (i / stride) (i % stride) (mod-lt i (stride-some l s))
-        ∙ ap (λ (n : ℕ). n + turned (l .bytes) (l .le) (i % stride)) words-of
-        ∙ sym (turned-in (l .bytes) width (l .le) (i / stride * l .ch) (i % stride))
-        ∙ ap (turned (l .bytes) (l .le)) (ap (λ (n : ℕ). n + i % stride) (sym words-of) ∙ whole)
+        ∙ together-place l s plain xor (i / stride) (i % stride) (mod-lt i (stride-some l s))
+        ∙ ap (λ (n : ℕ). n + highFirst (l .bytes) (l .le) (i % stride)) words-of
+        ∙ sym (high-first-in (l .bytes) width (l .le) (i / stride * l .ch) (i % stride))
+        ∙ ap (highFirst (l .bytes) (l .le)) (ap (λ (n : ℕ). n + i % stride) (sym words-of) ∙ whole)
 
     module _ (picture : List ℕ) (y j : ℕ) (h : j < rowBytes l) where
-      row-place : placeIndex l (y * rowBytes l + j) ≡ y * rowBytes l + turned (l .bytes) (l .le) j
+      row-place : placeIndex l (y * rowBytes l + j) ≡ y * rowBytes l + highFirst (l .bytes) (l .le) j
       row-place =
           let words-of : y * rowBytes l ≡ y * (l .w * l .ch) * l .bytes = ap (λ (n : ℕ). y * n) (sym (mul-assoc (l .w) (l .ch) (l .bytes))) ∙ sym (mul-assoc y (l .w * l .ch) (l .bytes)) in
           place-here (y * rowBytes l + j)
-          ∙ ap (λ (n : ℕ). turned (l .bytes) (l .le) (n + j)) words-of
-          ∙ turned-in (l .bytes) width (l .le) (y * (l .w * l .ch)) j
-          ∙ ap (λ (n : ℕ). n + turned (l .bytes) (l .le) j) (sym words-of)
+          ∙ ap (λ (n : ℕ). highFirst (l .bytes) (l .le) (n + j)) words-of
+          ∙ high-first-in (l .bytes) width (l .le) (y * (l .w * l .ch)) j
+          ∙ ap (λ (n : ℕ). n + highFirst (l .bytes) (l .le) j) (sym words-of)
 
-      over-row : flips l (placeIndex l (y * rowBytes l + j)) ≡ turnsOver l (j % l .ch)
-      unfolding turned
+      over-row : flips l (placeIndex l (y * rowBytes l + j)) ≡ flipsChannel l (j % l .ch)
+      unfolding highFirst
       over-row = by (eqb (l .alpha) 0) refl
         where
           by : (b : Bool) → eqb (l .alpha) 0 ≡ b → (l .white && (b || not (eqb (placeIndex l (y * rowBytes l + j) % l .ch) (l .ch - 1)))) ≡ (l .white && (b || not (eqb (j % l .ch) (l .ch - 1))))
@@ -159,11 +159,11 @@ module _ (l : RasterLayout) (s : Sound (recordFaults l)) (bare : l .palette ≡ 
               let here : placeIndex l (y * rowBytes l + j) ≡ y * l .w * l .ch + j = row-place ∙ rw one (rw (mul-one (l .ch), mul-assoc y (l .w) (l .ch))) in
               rw (here, mul-add-mod-self-right (y * l .w) (l .ch) j)
 
-      plain-byte : flipped (turnsOver l (j % l .ch)) (getD (part (y * rowBytes l) (y * rowBytes l + rowBytes l) picture) (turned (l .bytes) (l .le) j) 0) ≡ written l picture (y * rowBytes l + j)
+      plain-byte : flipped (flipsChannel l (j % l .ch)) (getD (part (y * rowBytes l) (y * rowBytes l + rowBytes l) picture) (highFirst (l .bytes) (l .le) j) 0) ≡ written l picture (y * rowBytes l + j)
       unfolding written
       plain-byte =
-          let inside = turned-below (l .bytes) width (l .le) (rowBytes l) j (row-words l) h in
-          ap (flipped (turnsOver l (j % l .ch))) (part-at (y * rowBytes l) (y * rowBytes l + rowBytes l) picture (turned (l .bytes) (l .le) j) (omega arith) ∙ ap (λ (k : ℕ). getD picture k 0) (sym row-place))
+          let inside = high-first-below (l .bytes) width (l .le) (rowBytes l) j (row-words l) h in
+          ap (flipped (flipsChannel l (j % l .ch))) (part-at (y * rowBytes l) (y * rowBytes l + rowBytes l) picture (highFirst (l .bytes) (l .le) j) (omega arith) ∙ ap (λ (k : ℕ). getD picture k 0) (sym row-place))
           ∙ ap (λ (b : Bool). flipped b (getD picture (placeIndex l (y * rowBytes l + j)) 0)) (sym over-row)
           ∙ sym (not-picked _ _ several)
 

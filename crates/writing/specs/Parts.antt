@@ -9,9 +9,9 @@ use Rattle.answer.specs.Outcome.{Sound, unless, pick, doneOutcome}
 use Rattle.answer.specs.Table.{table, filled}
 use Rattle.answer.specs.declared.Done.{Done}
 use Rattle.layout.specs.declared.RasterLayout.{RasterLayout}
-use Rattle.layout.specs.Layout.{recordFaults, turned}
+use Rattle.layout.specs.Layout.{recordFaults, highFirst}
 use Rattle.pixels.specs.Render.{rowBytes, planeRow, flipped, OneOrTwo}
-use Rattle.pixels.specs.Planes.{turnsOver, writeFaults, written}
+use Rattle.pixels.specs.Planes.{flipsChannel, writeFaults, written}
 use Rattle.packed.specs.Rows.{packedAt}
 
 -- whether the planes can be written
@@ -35,7 +35,7 @@ planar l = l .separate && not (eqb (l .slots) 8)
 
 -- byte j of one channel of the pixels of a picture, whose first byte stands at `first`
 abbrev pub channelAt : List ℕ → ℕ → ℕ → ℕ → Bool → ℕ → ℕ
-channelAt picture first stride bytes le j = getD picture (first + j / bytes * stride + turned bytes le (j % bytes)) 0
+channelAt picture first stride bytes le j = getD picture (first + j / bytes * stride + highFirst bytes le (j % bytes)) 0
 
 pub record ChannelFits (picture : List ℕ) (first stride bytes : ℕ) (out : List ℕ) : Type 0 where
   pub inside : first + bytes ≤ stride
@@ -63,8 +63,8 @@ pub record Apart (l : RasterLayout) (picture planes : List ℕ) : Type 0 where
   pub apart : planar l ≡ true
 
 -- pixels whose bytes stand together, turned over by white
-abbrev pub TurnedOver : RasterLayout → List ℕ → List ℕ → Type 0
-TurnedOver l old new = new ≡ table (length old) (λ j. flipped (turnsOver l (j % l .ch)) (getD old j 0))
+abbrev pub RowFlipped : RasterLayout → List ℕ → List ℕ → Type 0
+RowFlipped l old new = new ≡ table (length old) (λ j. flipped (flipsChannel l (j % l .ch)) (getD old j 0))
 
 -- a row of bytes or words
 pub record PlainFits (l : RasterLayout) (row out : List ℕ) : Type 0 where
@@ -75,7 +75,7 @@ pub record PlainFits (l : RasterLayout) (row out : List ℕ) : Type 0 where
   pub room : length out ≡ length row
 
 abbrev pub PlainRow : RasterLayout → List ℕ → List ℕ → List ℕ → Type 0
-PlainRow l row old new = new ≡ table (length old) (λ j. flipped (turnsOver l (j % l .ch)) (getD row (turned (l .bytes) (l .le) j) 0))
+PlainRow l row old new = new ≡ table (length old) (λ j. flipped (flipsChannel l (j % l .ch)) (getD row (highFirst (l .bytes) (l .le) j) 0))
 
 -- a row of the picture, and room for its row of the planes
 pub record RowOf (l : RasterLayout) (row out : List ℕ) : Type 0 where
@@ -88,7 +88,7 @@ pub record RowOf (l : RasterLayout) (row out : List ℕ) : Type 0 where
 
 -- byte j of a row of the planes
 abbrev pub rowAt : RasterLayout → List ℕ → ℕ → ℕ
-rowAt l row j = pick (eqb (l .slots) 8) (packedAt (l .white) row j) (flipped (turnsOver l (j % l .ch)) (getD row (turned (l .bytes) (l .le) j) 0))
+rowAt l row j = pick (eqb (l .slots) 8) (packedAt (l .white) row j) (flipped (flipsChannel l (j % l .ch)) (getD row (highFirst (l .bytes) (l .le) j) 0))
 
 abbrev pub RowWritten : RasterLayout → List ℕ → List ℕ → List ℕ → Type 0
 RowWritten l row old new = new ≡ table (length old) (rowAt l row)

@@ -1,12 +1,12 @@
 // One plane, row by row.
 use layout::RasterLayout;
 ghost use Rattle.pixels.specs.Finish.{WholePixels};
-ghost use Rattle.writing.specs.Parts.{TurnedOver, PlainFits, PlainRow, RowOf, RowWritten, Together, WrittenInto};
+ghost use Rattle.writing.specs.Parts.{RowFlipped, PlainFits, PlainRow, RowOf, RowWritten, Together, WrittenInto};
 
 // White turns over every byte but alpha's.
-fn turn_over(l: RasterLayout, s: &mut [u8])
+fn flip_row(l: RasterLayout, s: &mut [u8])
     requires { ⌜ WholePixels (now s) (l .ch) ⌝ }
-    ensures { λ r. ⌜ TurnedOver l (now (s .entry)) (now (s .exit)) ⌝ }
+    ensures { λ r. ⌜ RowFlipped l (now (s .entry)) (now (s .exit)) ⌝ }
 {
     if l.white {
         if l.alpha == 0 {
@@ -23,7 +23,7 @@ fn plain_row(l: RasterLayout, row: &[u8], out: &mut [u8])
     ensures { λ r. ⌜ PlainRow l (now (row .entry)) (now (out .entry)) (now (out .exit)) ⌝ }
 {
     samples::reorder(row, l.bytes, false, l.le, out);
-    turn_over(l, out);
+    flip_row(l, out);
 }
 
 // A row of the picture.

@@ -3,7 +3,7 @@ use layout::RasterLayout;
 ghost use mathlib.Core.Path.{_≡_};
 ghost use Prim.Native.Nat.{_<_};
 ghost use Rattle.pixels.specs.Render.{OneOrTwo};
-ghost use Rattle.pixels.specs.Planes.{turnsOver};
+ghost use Rattle.pixels.specs.Planes.{flipsChannel};
 ghost use Rattle.writing.specs.Parts.{ChannelFits, ChannelInto, PlaneOf, PlaneWritten, Apart, WrittenInto};
 
 // One channel of every pixel: a byte of each.
@@ -48,9 +48,9 @@ fn channel(picture: &[u8], first: usize, stride: usize, bytes: usize, le: bool, 
 }
 
 // Whether white turns channel c over: every one but alpha.
-fn turns_over(l: RasterLayout, c: usize) -> bool
+fn flips_channel(l: RasterLayout, c: usize) -> bool
     requires { ⌜ c < l .ch ⌝ }
-    ensures { λ r. ⌜ r ≡ turnsOver l c ⌝ }
+    ensures { λ r. ⌜ r ≡ flipsChannel l c ⌝ }
 {
     if l.white {
         if l.alpha == 0 { true } else { c != l.ch - 1 }
@@ -65,7 +65,7 @@ fn write_plane(l: RasterLayout, picture: &[u8], c: usize, out: &mut [u8])
     ensures { λ r. ⌜ PlaneWritten l (now (picture .entry)) c (now (out .entry)) (now (out .exit)) ⌝ }
 {
     channel(picture, c * l.bytes, l.ch * l.bytes, l.bytes, l.le, out);
-    if turns_over(l, c) {
+    if flips_channel(l, c) {
         pixels::invert(out);
     }
 }

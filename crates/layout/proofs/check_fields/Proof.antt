@@ -5,7 +5,7 @@ use mathlib.Core.List.{_++_}
 use Rattle.answer.specs.Outcome.{Sound}
 use Rattle.answer.proofs.Promised.{refusing, sound-front, first-more, passed, stopped, sound-skip}
 use Rattle.layout.specs.Layout.{servedFaults, agreedFaults, sizeFaults, layoutFaults, StepPassed}
-use Rattle.layout.proofs.Steps.{in-turn}
+use Rattle.layout.proofs.Steps.{one-then-other}
 use Rattle.layout.proofs.check_fields.Statement.{statement}
 use Rattle.layout.proofs.check_fields.Tie as tie
 
@@ -30,7 +30,7 @@ steps c =
     let f = c .before .before .before .args .f in
     let served = c .before .before .check-served .result in
     let agreed = c .before .check-agreed .result in
-    rw (c .first-of .ensures) (in-turn (servedFaults f) (agreedFaults f) served agreed (c .before .before .check-served .ensures) (c .before .check-agreed .ensures))
+    rw (c .first-of .ensures) (one-then-other (servedFaults f) (agreedFaults f) served agreed (c .before .before .check-served .ensures) (c .before .check-agreed .ensures))
 
 shown : (c : tie.After-enum-told) → let f = c .before .before .before .before .before .args .f in Sound (servedFaults f ++ agreedFaults f)
 shown c = passed _ (c .before .before .first-of .result) (steps (c .before .before)) (c .enum-told .given .1)

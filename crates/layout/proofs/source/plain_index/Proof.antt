@@ -13,11 +13,11 @@ use Rattle.layout.proofs.source.plain_index.Tie as tie
 
 returns : tie.Need-returns
 unfolding plainIndex
-returns c = rw (c .before .before .before .before .before .turn .ensures, c .before .before .before .before .if1 .taken)
+returns c = rw (c .before .before .before .before .before .high-first .ensures, c .before .before .before .before .if1 .taken)
 
 returns-2 : tie.Need-returns-2
 unfolding plainIndex
-returns-2 c = rw (c .before .turn .ensures, c .if1 .left)
+returns-2 c = rw (c .before .high-first .ensures, c .if1 .left)
 
 known : (c : tie.Start) → Accepted (given (c .args .l))
 known c = record-accepted (c .args .l) (c .pre .0 .sound)
@@ -28,11 +28,11 @@ mul-stride c = fits-below tt (bytes-few (given (c .before .args .l)) (known (c .
 div-p : tie.Need-div-p
 div-p c = stride-some (c .before .args .l) (c .before .pre .0 .sound)
 
-rem-turn : tie.Need-rem-turn
-rem-turn c = stride-some (c .before .args .l) (c .before .pre .0 .sound)
+rem-high-first : tie.Need-rem-high-first
+rem-high-first c = stride-some (c .before .args .l) (c .before .pre .0 .sound)
 
-turn-requires : tie.Need-turn-requires
-turn-requires c κs = search needs
+high-first-requires : tie.Need-high-first-requires
+high-first-requires c κs = search needs
 
 div-result : tie.Need-div-result
 div-result c = up-to-eight (known (c .before .before .before .before) .bytes) .0
@@ -43,13 +43,13 @@ limited c =
     let asked = c .pre .0 in
     omega (arith, plain-below (c .args .l) (asked .sound) (c .args .k) (c .pre .1) (asked .within), scratch-limited (c .args .l) (asked .sound))
 
-separate : (c : tie.Then1) → let l = c .before .before .before .args .l in let at = c .before .turn .result in at / l .bytes * l .«plane_len» + c .before .before .before .args .k / (l .ch * l .bytes) * l .bytes + at % l .bytes ≤ byteLimit
+separate : (c : tie.Then1) → let l = c .before .before .before .args .l in let at = c .before .high-first .result in at / l .bytes * l .«plane_len» + c .before .before .before .args .k / (l .ch * l .bytes) * l .bytes + at % l .bytes ≤ byteLimit
 unfolding plainIndex
-separate c = rw (c .before .turn .ensures) (rw (c .if1 .taken) at (limited (c .before .before .before)))
+separate c = rw (c .before .high-first .ensures) (rw (c .if1 .taken) at (limited (c .before .before .before)))
 
-interleaved : (c : tie.Else1) → let l = c .before .before .before .args .l in c .before .before .before .args .k / (l .ch * l .bytes) * (l .ch * l .bytes) + c .before .turn .result ≤ byteLimit
+interleaved : (c : tie.Else1) → let l = c .before .before .before .args .l in c .before .before .before .args .k / (l .ch * l .bytes) * (l .ch * l .bytes) + c .before .high-first .result ≤ byteLimit
 unfolding plainIndex
-interleaved c = rw (c .before .turn .ensures) (rw (c .if1 .left) at (limited (c .before .before .before)))
+interleaved c = rw (c .before .high-first .ensures) (rw (c .if1 .left) at (limited (c .before .before .before)))
 
 mul-result : tie.Need-mul-result
 mul-result c = fits-below {n = byteLimit} tt (omega (arith, separate (c .before .before)))
@@ -73,4 +73,4 @@ add-result-3 : tie.Need-add-result-3
 add-result-3 c = fits-below {n = byteLimit} tt (interleaved c)
 
 pub plain-index-spec : {M : Type 1} → statement M
-plain-index-spec = tie.close (tie.spec mul-stride div-p rem-turn turn-requires div-result mul-result mul-result-2 add-result rem-result add-result-2 mul-result-3 add-result-3 returns returns-2)
+plain-index-spec = tie.close (tie.spec mul-stride div-p rem-high-first high-first-requires div-result mul-result mul-result-2 add-result rem-result add-result-2 mul-result-3 add-result-3 returns returns-2)

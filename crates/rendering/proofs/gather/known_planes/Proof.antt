@@ -1,6 +1,6 @@
 -- `rendering::gather::known_planes` meets its contract: each arm is the same call, and a width that is not 2 is 1. Assumes nothing.
 use borrow.Author.Needs.{needs}
-use Rattle.pixels.proofs.Turned.{one-byte}
+use Rattle.pixels.proofs.HighFirst.{one-byte}
 use Rattle.rendering.proofs.gather.known_planes.Statement.{statement}
 use Rattle.rendering.proofs.gather.known_planes.Tie as tie
 

@@ -1,6 +1,6 @@
 -- `rendering::gather::pixel` meets its contract: a width that is not 2 is 1. Assumes nothing.
 use borrow.Author.Needs.{needs}
-use Rattle.pixels.proofs.Turned.{one-byte}
+use Rattle.pixels.proofs.HighFirst.{one-byte}
 use Rattle.rendering.proofs.gather.pixel.Statement.{statement}
 use Rattle.rendering.proofs.gather.pixel.Tie as tie
 

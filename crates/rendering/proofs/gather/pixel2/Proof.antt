@@ -4,7 +4,7 @@ use native.Mathlib.Omega.{arith}
 use Prim.Native.Nat.{_+_, _-_, _*_, _≤_}
 use mathlib.Core.Path.{_≡_}
 use lib.ListN.{length-set}
-use Rattle.pixels.proofs.Turned.{high-few}
+use Rattle.pixels.proofs.HighFirst.{high-few}
 use Rattle.rendering.proofs.Gathering.{Channelwise, channels-none, channel-room, channel-two, channels-ended}
 use Rattle.rendering.proofs.gather.pixel2.Statement.{statement}
 use Rattle.rendering.proofs.gather.pixel2.Tie as tie

@@ -2,7 +2,7 @@
 use borrow.Author.Needs.{needs}
 use denote.Ref.{now}
 use native.Mathlib.Omega.{arith}
-use Rattle.swaps.proofs.Backward.{in-turn}
+use Rattle.swaps.proofs.Backward.{last-then-first}
 use Rattle.swaps.proofs.back.back3.Statement.{statement}
 use Rattle.swaps.proofs.back.back3.Tie as tie
 
@@ -24,7 +24,7 @@ same-length c = search needs
 returns : tie.Need-returns
 returns c =
     let args = c .before .before .before .before .before .before .before .before .before .before .args in
-    in-turn (now (args .raw)) (args .from) 1 2 (now (args .out)) _ (args .at) _ (c .before .before .before .before .before .before .back1 .ensures) (c .before .before .back2 .ensures)
+    last-then-first (now (args .raw)) (args .from) 1 2 (now (args .out)) _ (args .at) _ (c .before .before .before .before .before .before .back1 .ensures) (c .before .before .back2 .ensures)
 
 pub back3-spec : {M : Type 1} → statement M
 back3-spec = tie.close (tie.spec add-back1 back1-requires add-back2 back2-requires same-length returns)

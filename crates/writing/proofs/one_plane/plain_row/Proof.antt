@@ -13,8 +13,8 @@ reorder-requires c κs = search needs
 bytes : (c : tie.After-reorder) → Bytes (now (c .before .before .before .before .args .row))
 bytes c i = omega (arith, c .before .before .before .shared-slice-known .given i)
 
-turn-over-requires : tie.Need-turn-over-requires
-turn-over-requires c κs =
+flip-row-requires : tie.Need-flip-row-requires
+flip-row-requires c κs =
     let call = c .before .before .before in
     ordered-whole (call .before .before .before .before .pre) (bytes call) (call .reorder .result) _ (call .reorder .ensures)
 
@@ -24,7 +24,7 @@ same-length c = search needs
 returns : tie.Need-returns
 returns c =
     let call = c .before .before .before .before .before .before in
-    plain-done (call .before .before .before .before .pre) (bytes call) (call .reorder .result) _ (call .reorder .ensures) _ (c .before .before .turn-over .ensures)
+    plain-done (call .before .before .before .before .pre) (bytes call) (call .reorder .result) _ (call .reorder .ensures) _ (c .before .before .flip-row .ensures)
 
 pub plain-row-spec : {M : Type 1} → statement M
-plain-row-spec = tie.close (tie.spec reorder-requires turn-over-requires same-length returns)
+plain-row-spec = tie.close (tie.spec reorder-requires flip-row-requires same-length returns)

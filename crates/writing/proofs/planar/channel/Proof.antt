@@ -1,6 +1,6 @@
 -- `writing::planar::channel` meets its contract: a width that is not 2 is 1. Assumes nothing.
 use borrow.Author.Needs.{needs}
-use Rattle.pixels.proofs.Turned.{one-byte}
+use Rattle.pixels.proofs.HighFirst.{one-byte}
 use Rattle.writing.proofs.planar.channel.Statement.{statement}
 use Rattle.writing.proofs.planar.channel.Tie as tie
 

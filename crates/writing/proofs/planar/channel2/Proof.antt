@@ -5,7 +5,7 @@ use Prim.Native.Nat.{_+_, _-_, _/_, _≤_, _<_}
 use mathlib.Core.Path.{_≡_}
 use lib.ListN.{length, length-set}
 use denote.Ref.{now}
-use Rattle.pixels.proofs.Turned.{high-few}
+use Rattle.pixels.proofs.HighFirst.{high-few}
 use Rattle.writing.proofs.Channels.{Channelwise, pixels-none, pixel-room, pixel-inside, pixel-two, pixels-ended}
 use Rattle.writing.proofs.planar.channel2.Statement.{statement}
 use Rattle.writing.proofs.planar.channel2.Tie as tie

@@ -6,7 +6,7 @@ use mathlib.Core.Path.{sym, _∙_}
 use denote.Ref.{now}
 use Rattle.writing.specs.Parts.{ChannelFits}
 use Rattle.writing.proofs.Planewise.{channel-fits, plane-kept, plane-over}
-use Rattle.pixels.proofs.Turned.{one-or-two}
+use Rattle.pixels.proofs.HighFirst.{one-or-two}
 use Rattle.writing.proofs.planar.write_plane.Statement.{statement}
 use Rattle.writing.proofs.planar.write_plane.Tie as tie
 
@@ -24,8 +24,8 @@ mul-channel-2 c = omega (arith, fits (c .before .before .before .before))
 channel-requires : tie.Need-channel-requires
 channel-requires c κs = let start = c .before .before .before .before .before in (fits start, one-or-two (start .args .l) (start .pre .sound) (start .pre .narrow))
 
-turns-over-requires : tie.Need-turns-over-requires
-turns-over-requires c κs = omega (arith, c .before .before .before .before .before .before .before .before .pre .channel)
+flips-channel-requires : tie.Need-flips-channel-requires
+flips-channel-requires c κs = omega (arith, c .before .before .before .before .before .before .before .before .pre .channel)
 
 invert-requires : tie.Need-invert-requires
 invert-requires c κs = search needs
@@ -38,7 +38,7 @@ returns c =
     let over = c .before .before .before .before .before in
     let start = over .before .before .before .before .before .before .before .before .before in
     let pre = start .pre in
-    plane-over (start .args .l) (pre .sound) (pre .narrow) (pre .apart) (now (start .args .picture)) (start .args .c) (pre .channel) (pre .all) (now (start .args .out)) (pre .room) _ (over .before .before .before .channel .ensures) (sym (over .turns-over .ensures) ∙ c .before .before .before .before .if1 .taken) _ (c .before .before .invert .ensures)
+    plane-over (start .args .l) (pre .sound) (pre .narrow) (pre .apart) (now (start .args .picture)) (start .args .c) (pre .channel) (pre .all) (now (start .args .out)) (pre .room) _ (over .before .before .before .channel .ensures) (sym (over .flips-channel .ensures) ∙ c .before .before .before .before .if1 .taken) _ (c .before .before .invert .ensures)
 
 same-length-2 : tie.Need-same-length-2
 same-length-2 c = search needs
@@ -48,8 +48,8 @@ returns-2 c =
     let over = c .before in
     let start = over .before .before .before .before .before .before .before .before .before in
     let pre = start .pre in
-    plane-kept (start .args .l) (pre .sound) (pre .narrow) (pre .apart) (now (start .args .picture)) (start .args .c) (pre .channel) (pre .all) (now (start .args .out)) (pre .room) _ (over .before .before .before .channel .ensures) (sym (over .turns-over .ensures) ∙ c .if1 .left)
+    plane-kept (start .args .l) (pre .sound) (pre .narrow) (pre .apart) (now (start .args .picture)) (start .args .c) (pre .channel) (pre .all) (now (start .args .out)) (pre .room) _ (over .before .before .before .channel .ensures) (sym (over .flips-channel .ensures) ∙ c .if1 .left)
 
 pub write-plane-spec : {M : Type 1} → statement M
 write-plane-spec =
-    tie.close (tie.spec mul-channel mul-channel-2 channel-requires turns-over-requires invert-requires same-length returns same-length-2 returns-2)
+    tie.close (tie.spec mul-channel mul-channel-2 channel-requires flips-channel-requires invert-requires same-length returns same-length-2 returns-2)

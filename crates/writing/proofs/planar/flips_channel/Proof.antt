@@ -1,9 +1,9 @@
--- `writing::planar::turns_over` meets its contract. Assumes nothing.
+-- `writing::planar::flips_channel` meets its contract. Assumes nothing.
 use borrow.Author.Needs.{needs}
 use borrow.Author.Tests.{eq-eqb, ne-eqb}
 use native.Mathlib.Omega.{arith}
-use Rattle.writing.proofs.planar.turns_over.Statement.{statement}
-use Rattle.writing.proofs.planar.turns_over.Tie as tie
+use Rattle.writing.proofs.planar.flips_channel.Statement.{statement}
+use Rattle.writing.proofs.planar.flips_channel.Tie as tie
 
 sub-result : tie.Need-sub-result
 sub-result c = search needs
@@ -17,5 +17,5 @@ returns-2 c = rw (c .before .before .before .if1 .taken, ne-eqb (c .before .befo
 returns-3 : tie.Need-returns-3
 returns-3 c = rw (c .if1 .left)
 
-pub turns-over-spec : {M : Type 1} → statement M
-turns-over-spec = tie.close (tie.spec sub-result returns returns-2 returns-3)
+pub flips-channel-spec : {M : Type 1} → statement M
+flips-channel-spec = tie.close (tie.spec sub-result returns returns-2 returns-3)

@@ -1,10 +1,10 @@
--- `writing::one_plane::turn_over` meets its contract: the laws are in proofs/Plain.antt. Assumes nothing.
+-- `writing::one_plane::flip_row` meets its contract: the laws are in proofs/Plain.antt. Assumes nothing.
 use borrow.Author.Needs.{needs}
 use native.Mathlib.Omega.{arith}
 use denote.Ref.{now}
 use Rattle.writing.proofs.Plain.{over-none, over-all, over-colours}
-use Rattle.writing.proofs.one_plane.turn_over.Statement.{statement}
-use Rattle.writing.proofs.one_plane.turn_over.Tie as tie
+use Rattle.writing.proofs.one_plane.flip_row.Statement.{statement}
+use Rattle.writing.proofs.one_plane.flip_row.Tie as tie
 
 invert-requires : tie.Need-invert-requires
 invert-requires c κs = search needs
@@ -33,6 +33,6 @@ returns-2 c =
 returns-3 : tie.Need-returns-3
 returns-3 c = over-none (c .before .before .args .l) (now (c .before .before .args .s)) (c .if1 .left)
 
-pub turn-over-spec : {M : Type 1} → statement M
-turn-over-spec =
+pub flip-row-spec : {M : Type 1} → statement M
+flip-row-spec =
     tie.close (tie.spec invert-requires straighten-row-requires same-length returns same-length-2 returns-2 returns-3)

@@ -17,10 +17,10 @@ use Rattle.answer.proofs.Filling.{length-table, table-at, table-same}
 use Rattle.words.specs.Word.{Bytes}
 use Rattle.layout.specs.declared.RasterLayout.{RasterLayout}
 use Rattle.layout.specs.Layout.{recordFaults}
 use Rattle.pixels.specs.Render.{converted, Rendered}
 use Rattle.pixels.specs.Planes.{twoLevels, written, planeFaults, writeFaults, Written, unpadded}
 use Rattle.pixels.proofs.Undo.{not-picked, render-written, write-rendered}
-use Rattle.picture.proofs.Same.{converted-same, written-same}
+use Rattle.pixels.proofs.Same.{converted-same, written-same}
 
 -- the front of a buffer that is a table, byte by byte
 front-at : (n : ℕ) (f : ℕ → ℕ) (x : List ℕ) → take n x ≡ table n f → (i : ℕ) → i < n → getD x i 0 ≡ f i

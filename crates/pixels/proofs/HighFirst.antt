@@ -8,15 +8,14 @@ use native.Mathlib.Omega.{arith}
 use borrow.Author.Tests.{eqb-false}
 use lib.ListN.{getD}
 use lib.Dec.{eqb}
-use Rattle.answer.specs.Outcome.{Sound, pick}
+use Rattle.answer.specs.Outcome.{Sound, pick, xor}
 use Rattle.words.specs.Word.{Bytes}
 use Rattle.words.specs.Promises.{served}
 use Rattle.swaps.specs.Swapped.{mirror}
 use Rattle.samples.specs.Sample.{wordOf, storedAt}
-use Rattle.samples.specs.Promises.{apart}
 use Rattle.samples.proofs.Orders.{same-order, other-order}
 use Rattle.layout.specs.declared.RasterLayout.{RasterLayout}
-use Rattle.layout.specs.Layout.{recordFaults, turned}
+use Rattle.layout.specs.Layout.{recordFaults, highFirst}
 use Rattle.layout.proofs.Whole.{record-accepted}
 use Rattle.pixels.specs.Render.{highByte, OneOrTwo}
 
@@ -46,49 +45,49 @@ pub high-few : (le : Bool) {n : ℕ} → n ≡ highByte le → n ≤ 1
 high-few true e = omega arith
 high-few false e = omega arith
 
-pub turned-one : (le : Bool) (c : ℕ) → turned 1 le c ≡ c
-unfolding turned
-turned-one le c = refl
+pub high-first-one : (le : Bool) (c : ℕ) → highFirst 1 le c ≡ c
+unfolding highFirst
+high-first-one le c = refl
 
-pub turned-two : (le : Bool) → (turned 2 le 0 ≡ highByte le) × (turned 2 le 1 ≡ 1 - highByte le)
-unfolding turned
-turned-two true = (refl, refl)
-turned-two false = (refl, refl)
+pub high-first-two : (le : Bool) → (highFirst 2 le 0 ≡ highByte le) × (highFirst 2 le 1 ≡ 1 - highByte le)
+unfolding highFirst
+high-first-two true = (refl, refl)
+high-first-two false = (refl, refl)
 
 -- words stand apart from words
-pub turned-in : (bytes : ℕ) → OneOrTwo bytes → (le : Bool) (c b : ℕ) → turned bytes le (c * bytes + b) ≡ c * bytes + turned bytes le b
-unfolding turned
-turned-in bytes (inl e) le c b = rw e
-turned-in bytes (inr e) true c b = rw e (omega arith)
-turned-in bytes (inr e) false c b = rw e
+pub high-first-in : (bytes : ℕ) → OneOrTwo bytes → (le : Bool) (c b : ℕ) → highFirst bytes le (c * bytes + b) ≡ c * bytes + highFirst bytes le b
+unfolding highFirst
+high-first-in bytes (inl e) le c b = rw e
+high-first-in bytes (inr e) true c b = rw e (omega arith)
+high-first-in bytes (inr e) false c b = rw e
 
 -- a byte of a word is a byte of whatever the word is in
-pub turned-below : (bytes : ℕ) → OneOrTwo bytes → (le : Bool) (n j : ℕ) → n % bytes ≡ 0 → j < n → turned bytes le j < n
-unfolding turned
-turned-below bytes (inl e) le n j whole h = rw e h
-turned-below bytes (inr e) true n j whole h = let even : n % 2 ≡ 0 = rw e at whole in rw e (omega arith)
-turned-below bytes (inr e) false n j whole h = rw e h
+pub high-first-below : (bytes : ℕ) → OneOrTwo bytes → (le : Bool) (n j : ℕ) → n % bytes ≡ 0 → j < n → highFirst bytes le j < n
+unfolding highFirst
+high-first-below bytes (inl e) le n j whole h = rw e h
+high-first-below bytes (inr e) true n j whole h = let even : n % 2 ≡ 0 = rw e at whole in rw e (omega arith)
+high-first-below bytes (inr e) false n j whole h = rw e h
 
-turned-mirror : {bytes : ℕ} → OneOrTwo bytes → (k : ℕ) → mirror bytes k ≡ turned bytes true k
-unfolding turned
+turned-mirror : {bytes : ℕ} → OneOrTwo bytes → (k : ℕ) → mirror bytes k ≡ highFirst bytes true k
+unfolding highFirst
 turned-mirror (inl e) k = rw e (omega arith)
 turned-mirror (inr e) k = rw e (omega arith)
 
-turned-same : (bytes k : ℕ) → k ≡ turned bytes false k
-unfolding turned
+turned-same : (bytes k : ℕ) → k ≡ highFirst bytes false k
+unfolding highFirst
 turned-same bytes k = by (eqb bytes 2)
   where
     by : (b : Bool) → k ≡ pick (b && false) (k - k % 2 + 1 - k % 2) k
     by true = refl
     by false = refl
 
-pub stored-turned : (raw : List ℕ) → Bytes raw → {bytes : ℕ} → OneOrTwo bytes → (le out-le : Bool) (k : ℕ) → storedAt bytes out-le (wordOf bytes le raw) k ≡ getD raw (turned bytes (apart le out-le) k) 0
-stored-turned raw b {bytes} width le out-le k = by (apart le out-le) refl
+pub stored-high-first : (raw : List ℕ) → Bytes raw → {bytes : ℕ} → OneOrTwo bytes → (le out-le : Bool) (k : ℕ) → storedAt bytes out-le (wordOf bytes le raw) k ≡ getD raw (highFirst bytes (xor le out-le) k) 0
+stored-high-first raw b {bytes} width le out-le k = by (xor le out-le) refl
   where
     some : OneOrTwo bytes → 0 < bytes
     some (inl e) = omega arith
     some (inr e) = omega arith
 
-    by : (d : Bool) → apart le out-le ≡ d → storedAt bytes out-le (wordOf bytes le raw) k ≡ getD raw (turned bytes d k) 0
+    by : (d : Bool) → xor le out-le ≡ d → storedAt bytes out-le (wordOf bytes le raw) k ≡ getD raw (highFirst bytes d k) 0
     by true e = other-order raw b bytes (some width) k le out-le e ∙ ap (λ (i : ℕ). getD raw i 0) (turned-mirror width k)
     by false e = same-order raw b bytes (some width) k le out-le e ∙ ap (λ (i : ℕ). getD raw i 0) (turned-same bytes k)
