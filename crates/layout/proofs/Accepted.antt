@@ -9,7 +9,7 @@ use Rattle.answer.specs.Outcome.{Sound, next, none}
 use Rattle.layout.specs.declared.Fields.{Fields}
 use Rattle.layout.specs.declared.RasterLayout.{RasterLayout}
 use Rattle.layout.specs.Layout.{servedFaults, layoutFaults, agreement, oneTwoEight, eightRule, alphaRule, paletteRule, slotsRule, sideLimit, byteLimit, outputLength}
-use Rattle.layout.proofs.Says.{Says, held, equal, differ, up, down, both, either, whenever}
+use Rattle.layout.proofs.Says.{Says, held, equal, differ, up, down, both, either, whenever, restated}
 
 abbrev pub OneTwoEight : ℕ → Type 0
 OneTwoEight n = ((n ≡ 1) ⊎ (n ≡ 2)) ⊎ (n ≡ 8)
@@ -124,19 +124,33 @@ module _ {f : Fields} (a : Accepted f) where
   alpha-bytes n = a .covered n .0 .0
 
 -- the fields that follow, compared
-abbrev pub Agreement : RasterLayout → RasterLayout → Type 0
-Agreement l right =
-    ((((((l .«encoded_width» ≡ right .«encoded_width») × (l .«plane_channels» ≡ right .«plane_channels»)) × (l .planes ≡ right .planes)) × (l .«plane_len» ≡ right .«plane_len»)) × (l .«scratch_len» ≡ right .«scratch_len»)) × (l .«output_len» ≡ right .«output_len»)) × (l .colors ≡ right .colors)
+pub record Agreement (l right : RasterLayout) : Type 0 where
+  pub encoded-width : l .«encoded_width» ≡ right .«encoded_width»
+  pub plane-channels : l .«plane_channels» ≡ right .«plane_channels»
+  pub planes : l .planes ≡ right .planes
+  pub plane-length : l .«plane_len» ≡ right .«plane_len»
+  pub scratch-length : l .«scratch_len» ≡ right .«scratch_len»
+  pub output-length : l .«output_len» ≡ right .«output_len»
+  pub colours : l .colors ≡ right .colors
 
 pub agrees : (l right : RasterLayout) → Says (agreement l right) (Agreement l right)
 unfolding agreement
 agrees l right =
-    both
-    (both
-    (both
-    (both
-    (both (both (equal (l .«encoded_width») (right .«encoded_width»)) (equal (l .«plane_channels») (right .«plane_channels»))) (equal (l .planes) (right .planes)))
-    (equal (l .«plane_len») (right .«plane_len»)))
-    (equal (l .«scratch_len») (right .«scratch_len»)))
-    (equal (l .«output_len») (right .«output_len»)))
-    (equal (l .colors) (right .colors))
+    let row = equal (l .«encoded_width») (right .«encoded_width») in
+    let place = equal (l .«plane_channels») (right .«plane_channels») in
+    let number = equal (l .planes) (right .planes) in
+    let plane = equal (l .«plane_len») (right .«plane_len») in
+    let scratch = equal (l .«scratch_len») (right .«scratch_len») in
+    let output = equal (l .«output_len») (right .«output_len») in
+    let colour = equal (l .colors) (right .colors) in
+    restated (both (both (both (both (both (both row place) number) plane) scratch) output) colour)
+    (λ a. record {
+      encoded-width = a .0 .0 .0 .0 .0 .0;
+      plane-channels = a .0 .0 .0 .0 .0 .1;
+      planes = a .0 .0 .0 .0 .1;
+      plane-length = a .0 .0 .0 .1;
+      scratch-length = a .0 .0 .1;
+      output-length = a .0 .1;
+      colours = a .1;
+    })
+    (λ a. ((((((a .encoded-width, a .plane-channels), a .planes), a .plane-length), a .scratch-length), a .output-length), a .colours))

@@ -8,7 +8,7 @@ use native.Mathlib.Omega.{arith}
 use lib.Dec.{eqb}
 use Rattle.answer.specs.Outcome.{Sound}
 use Rattle.layout.specs.declared.RasterLayout.{RasterLayout}
-use Rattle.layout.specs.Layout.{given, byteLimit, encodedWidth, planeChannels, planes, planeLength, scratchLength, outputLength, recordFaults, packed, packedIndex, highFirst, plainIndex, sourceIndex}
+use Rattle.layout.specs.Layout.{byteLimit, encodedWidth, planeChannels, planes, planeLength, scratchLength, outputLength, recordFaults, packed, packedIndex, highFirst, plainIndex, sourceIndex}
 use Rattle.layout.proofs.Says.{Says, clash, refuted, up, equal, both, either}
 use Rattle.layout.proofs.Accepted.{Accepted, up-to-eight, bilevel}
 use Rattle.layout.proofs.Sizes.{scratch-within}
@@ -20,108 +20,108 @@ grouped {a} {b} {n} {m} p q =
     let next : (a + 1) * m ≤ n * m = mul-le-mul-right m (omega arith) in omega (arith, add-mul a 1 m, one-mul m)
 
 module _ (l : RasterLayout) (s : Sound (recordFaults l)) where
-  shown : Accepted (given l)
+  shown : Accepted (l .fields)
   shown = record-accepted l s
 
   -- bytes of a pixel
-  pub stride-some : 0 < l .ch * l .bytes
+  pub stride-some : 0 < l .fields .ch * l .fields .bytes
   stride-some = mul-pos (shown .some) (up-to-eight (shown .bytes) .0)
 
   -- the lengths that a record has
-  pub output-is : l .«output_len» ≡ l .w * l .h * (l .ch * l .bytes)
+  pub output-is : l .«output_len» ≡ l .fields .w * l .fields .h * (l .fields .ch * l .fields .bytes)
   unfolding outputLength
-  output-is = record-agreed l s .0 .1 ∙ mul-assoc (l .w * l .h) (l .ch) (l .bytes)
+  output-is = record-agreed l s .output-length ∙ mul-assoc (l .fields .w * l .fields .h) (l .fields .ch) (l .fields .bytes)
 
-  pub scratch-is : l .«scratch_len» ≡ l .«encoded_width» * l .h * (planeChannels (given l) * planes (given l))
+  pub scratch-is : l .«scratch_len» ≡ l .«encoded_width» * l .fields .h * (planeChannels (l .fields) * planes (l .fields))
   unfolding scratchLength planeLength
   scratch-is =
-      let row : l .«encoded_width» ≡ encodedWidth (given l) = record-agreed l s .0 .0 .0 .0 .0 .0 in
-      rw row (record-agreed l s .0 .0 .1 ∙ mul-assoc (encodedWidth (given l) * l .h) (planeChannels (given l)) (planes (given l)))
+      let row : l .«encoded_width» ≡ encodedWidth (l .fields) = record-agreed l s .encoded-width in
+      rw row (record-agreed l s .scratch-length ∙ mul-assoc (encodedWidth (l .fields) * l .fields .h) (planeChannels (l .fields)) (planes (l .fields)))
 
   -- where a byte holds several samples, or a place of the map, a pixel has one byte in the picture's channel and one in all planes
-  pub packed-one : packed l ≡ true → (l .bytes ≡ 1) × (planeChannels (given l) * planes (given l) ≡ 1)
+  pub packed-one : packed l ≡ true → (l .fields .bytes ≡ 1) × (planeChannels (l .fields) * planes (l .fields) ≡ 1)
   unfolding planeChannels planes
-  packed-one e = by (l .palette) (l .separate) refl refl
+  packed-one e = by (l .fields .palette) (l .fields .separate) refl refl
     where
-      one-each : l .palette ≡ false → (l .ch ≡ 1) × (l .bytes ≡ 1)
-      one-each p = bilevel shown p (⊎-elim (λ t. clash t p) (λ q. q) (either (up (l .palette)) (equal (l .slots) 8) .tells e)) .0
+      one-each : l .fields .palette ≡ false → (l .fields .ch ≡ 1) × (l .fields .bytes ≡ 1)
+      one-each p = bilevel shown p (⊎-elim (λ t. clash t p) (λ q. q) (either (up (l .fields .palette)) (equal (l .fields .slots) 8) .tells e)) .0
 
-      by : (p t : Bool) → l .palette ≡ p → l .separate ≡ t → (l .bytes ≡ 1) × (planeChannels (given l) * planes (given l) ≡ 1)
+      by : (p t : Bool) → l .fields .palette ≡ p → l .fields .separate ≡ t → (l .fields .bytes ≡ 1) × (planeChannels (l .fields) * planes (l .fields) ≡ 1)
       by true t p q = let m = shown .mapped p in (m .0 .0 .0 .1, rw (p, m .0 .1))
       by false true p q = let one = one-each p in (one .1, rw (p, q, one .0, one .1))
       by false false p q = let one = one-each p in (one .1, rw (p, q, one .0, one .1))
 
   -- rows of whole bytes
-  pub row-within : (x : ℕ) → x < l .w → x / l .slots < l .«encoded_width»
+  pub row-within : (x : ℕ) → x < l .fields .w → x / l .fields .slots < l .«encoded_width»
   unfolding encodedWidth
   row-within x h =
       let some = up-to-eight (shown .slots) .0 in
-      let row : l .«encoded_width» ≡ (l .w - 1) / l .slots + 1 = record-agreed l s .0 .0 .0 .0 .0 .0 in
-      rw row (div-lt-iff-lt-mul some .1 (omega (arith, lt-div-mul-add {a = l .w - 1} some, add-mul ((l .w - 1) / l .slots) 1 (l .slots), one-mul (l .slots))))
+      let row : l .«encoded_width» ≡ (l .fields .w - 1) / l .fields .slots + 1 = record-agreed l s .encoded-width in
+      rw row (div-lt-iff-lt-mul some .1 (omega (arith, lt-div-mul-add {a = l .fields .w - 1} some, add-mul ((l .fields .w - 1) / l .fields .slots) 1 (l .fields .slots), one-mul (l .fields .slots))))
 
   pub packed-below : (k : ℕ) → packed l ≡ true → k < l .«output_len» → packedIndex l k < l .«scratch_len»
   unfolding packedIndex
   packed-below k e h =
       let one = packed-one e in
-      let size : l .«output_len» ≡ l .w * l .h * l .ch = rw (one .0, mul-one) at output-is in
-      let pixel : k / l .ch < l .w * l .h = div-lt-iff-lt-mul (shown .some) .1 (omega arith) in
-      let line : k / l .ch / l .w < l .h = div-lt-iff-lt-mul (shown .wide) .1 (omega (arith, mul-comm (l .w) (l .h))) in
-      let scratch : l .«scratch_len» ≡ l .«encoded_width» * l .h = rw (one .1, mul-one) at scratch-is in
-      rw (scratch, mul-comm (l .«encoded_width») (l .h)) (grouped line (row-within (k / l .ch % l .w) (mod-lt (k / l .ch) (shown .wide))))
+      let size : l .«output_len» ≡ l .fields .w * l .fields .h * l .fields .ch = rw (one .0, mul-one) at output-is in
+      let pixel : k / l .fields .ch < l .fields .w * l .fields .h = div-lt-iff-lt-mul (shown .some) .1 (omega arith) in
+      let line : k / l .fields .ch / l .fields .w < l .fields .h = div-lt-iff-lt-mul (shown .wide) .1 (omega (arith, mul-comm (l .fields .w) (l .fields .h))) in
+      let scratch : l .«scratch_len» ≡ l .«encoded_width» * l .fields .h = rw (one .1, mul-one) at scratch-is in
+      rw (scratch, mul-comm (l .«encoded_width») (l .fields .h)) (grouped line (row-within (k / l .fields .ch % l .fields .w) (mod-lt (k / l .fields .ch) (shown .wide))))
 
   -- elsewhere each sample has bytes of its own, and a row of a plane is as wide as the picture
-  pub plain-one : packed l ≡ false → (l .palette ≡ false) × (l .slots ≡ 1)
+  pub plain-one : packed l ≡ false → (l .fields .palette ≡ false) × (l .fields .slots ≡ 1)
   plain-one e = (off, ⊎-elim (λ one. one) (λ q. clash (is-packed .told (inr (q .0 .0 .0))) e) (shown .shared off))
     where
-      is-packed : Says (packed l) ((l .palette ≡ true) ⊎ (l .slots ≡ 8))
-      is-packed = either (up (l .palette)) (equal (l .slots) 8)
+      is-packed : Says (packed l) ((l .fields .palette ≡ true) ⊎ (l .fields .slots ≡ 8))
+      is-packed = either (up (l .fields .palette)) (equal (l .fields .slots) 8)
 
-      off : l .palette ≡ false
-      off = sym (refuted (up (l .palette)) (λ p. clash (is-packed .told (inl p)) e))
+      off : l .fields .palette ≡ false
+      off = sym (refuted (up (l .fields .palette)) (λ p. clash (is-packed .told (inl p)) e))
 
-  pub row-is : packed l ≡ false → l .«encoded_width» ≡ l .w
+  pub row-is : packed l ≡ false → l .«encoded_width» ≡ l .fields .w
   unfolding encodedWidth
-  row-is e = rw (plain-one e .1, div-one) at (record-agreed l s .0 .0 .0 .0 .0 .0) ∙ omega (arith, shown .wide)
+  row-is e = rw (plain-one e .1, div-one) at (record-agreed l s .encoded-width) ∙ omega (arith, shown .wide)
 
   -- the bytes of a word change places within the pixel
-  pub high-first-within : (c : ℕ) → c < l .ch * l .bytes → highFirst (l .bytes) (l .le) c < l .ch * l .bytes
+  pub high-first-within : (c : ℕ) → c < l .fields .ch * l .fields .bytes → highFirst (l .fields .bytes) (l .fields .le) c < l .fields .ch * l .fields .bytes
   unfolding highFirst
-  high-first-within c h = by (eqb (l .bytes) 2 && l .le) refl
+  high-first-within c h = by (eqb (l .fields .bytes) 2 && l .fields .le) refl
     where
-      by : (b : Bool) → (eqb (l .bytes) 2 && l .le) ≡ b → highFirst (l .bytes) (l .le) c < l .ch * l .bytes
-      by true e = let two : l .bytes ≡ 2 = both (equal (l .bytes) 2) (up (l .le)) .tells e .0 in let short = rw two at h in rw (e, two) (omega arith)
+      by : (b : Bool) → (eqb (l .fields .bytes) 2 && l .fields .le) ≡ b → highFirst (l .fields .bytes) (l .fields .le) c < l .fields .ch * l .fields .bytes
+      by true e = let two : l .fields .bytes ≡ 2 = both (equal (l .fields .bytes) 2) (up (l .fields .le)) .tells e .0 in let short = rw two at h in rw (e, two) (omega arith)
       by false e = rw e h
 
   module _ (k : ℕ) (plain : packed l ≡ false) (h : k < l .«output_len») where
-    pixel-within : k / (l .ch * l .bytes) < l .w * l .h
+    pixel-within : k / (l .fields .ch * l .fields .bytes) < l .fields .w * l .fields .h
     pixel-within = div-lt-iff-lt-mul stride-some .1 (omega (arith, output-is))
 
-    byte-within : highFirst (l .bytes) (l .le) (k % (l .ch * l .bytes)) < l .ch * l .bytes
-    byte-within = high-first-within (k % (l .ch * l .bytes)) (mod-lt k stride-some)
+    byte-within : highFirst (l .fields .bytes) (l .fields .le) (k % (l .fields .ch * l .fields .bytes)) < l .fields .ch * l .fields .bytes
+    byte-within = high-first-within (k % (l .fields .ch * l .fields .bytes)) (mod-lt k stride-some)
 
-    pub interleaved-below : l .separate ≡ false → k / (l .ch * l .bytes) * (l .ch * l .bytes) + highFirst (l .bytes) (l .le) (k % (l .ch * l .bytes)) < l .«scratch_len»
+    pub interleaved-below : l .fields .separate ≡ false → k / (l .fields .ch * l .fields .bytes) * (l .fields .ch * l .fields .bytes) + highFirst (l .fields .bytes) (l .fields .le) (k % (l .fields .ch * l .fields .bytes)) < l .«scratch_len»
     unfolding planeChannels planes
     interleaved-below e =
-        let scratch : l .«scratch_len» ≡ l .w * l .h * (l .ch * l .bytes) = rw (row-is plain, plain-one plain .0, e, mul-one) at scratch-is in
+        let scratch : l .«scratch_len» ≡ l .fields .w * l .fields .h * (l .fields .ch * l .fields .bytes) = rw (row-is plain, plain-one plain .0, e, mul-one) at scratch-is in
         omega (arith, grouped pixel-within byte-within)
 
-    pub separate-below : l .separate ≡ true → (c : ℕ) → c < l .ch * l .bytes → c / l .bytes * l .«plane_len» + k / (l .ch * l .bytes) * l .bytes + c % l .bytes < l .«scratch_len»
+    pub separate-below : l .fields .separate ≡ true → (c : ℕ) → c < l .fields .ch * l .fields .bytes → c / l .fields .bytes * l .«plane_len» + k / (l .fields .ch * l .fields .bytes) * l .fields .bytes + c % l .fields .bytes < l .«scratch_len»
     unfolding planeChannels planes planeLength scratchLength
     separate-below e c q =
         let some = up-to-eight (shown .bytes) .0 in
-        let row : l .«encoded_width» ≡ encodedWidth (given l) = record-agreed l s .0 .0 .0 .0 .0 .0 in
-        let plane : l .«plane_len» ≡ l .w * l .h * l .bytes = rw (← row, row-is plain, plain-one plain .0, e) at (record-agreed l s .0 .0 .0 .1) in
-        let all : l .«scratch_len» ≡ l .«plane_len» * l .ch = rw (← record-agreed l s .0 .0 .0 .1, e) at (record-agreed l s .0 .0 .1) in
-        let inner : k / (l .ch * l .bytes) * l .bytes + c % l .bytes < l .«plane_len» = rw plane (grouped pixel-within (mod-lt c some)) in
+        let row : l .«encoded_width» ≡ encodedWidth (l .fields) = record-agreed l s .encoded-width in
+        let plane : l .«plane_len» ≡ l .fields .w * l .fields .h * l .fields .bytes = rw (← row, row-is plain, plain-one plain .0, e) at (record-agreed l s .plane-length) in
+        let all : l .«scratch_len» ≡ l .«plane_len» * l .fields .ch = rw (← record-agreed l s .plane-length, e) at (record-agreed l s .scratch-length) in
+        let inner : k / (l .fields .ch * l .fields .bytes) * l .fields .bytes + c % l .fields .bytes < l .«plane_len» = rw plane (grouped pixel-within (mod-lt c some)) in
         let outer = grouped (div-lt-iff-lt-mul some .1 q) inner in
-        omega (arith, mul-comm (l .«plane_len») (l .ch), outer)
+        omega (arith, mul-comm (l .«plane_len») (l .fields .ch), outer)
 
     pub plain-below : plainIndex l k < l .«scratch_len»
     unfolding plainIndex
-    plain-below = by (l .separate) refl
+    plain-below = by (l .fields .separate) refl
       where
-        by : (b : Bool) → l .separate ≡ b → plainIndex l k < l .«scratch_len»
-        by true e = rw e (separate-below e (highFirst (l .bytes) (l .le) (k % (l .ch * l .bytes))) byte-within)
+        by : (b : Bool) → l .fields .separate ≡ b → plainIndex l k < l .«scratch_len»
+        by true e = rw e (separate-below e (highFirst (l .fields .bytes) (l .fields .le) (k % (l .fields .ch * l .fields .bytes))) byte-within)
         by false e = rw e (interleaved-below e)
 
   -- so wherever a byte of the picture comes from
@@ -134,4 +134,4 @@ module _ (l : RasterLayout) (s : Sound (recordFaults l)) where
 
   -- and the planes are within the limit
   pub scratch-limited : l .«scratch_len» ≤ byteLimit
-  scratch-limited = omega (arith, record-agreed l s .0 .0 .1, scratch-within (given l) shown, shown .size)
+  scratch-limited = omega (arith, record-agreed l s .scratch-length, scratch-within (l .fields) shown, shown .size)

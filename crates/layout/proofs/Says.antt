@@ -87,3 +87,7 @@ whenever {a} {b} {P} {Q} s r = record { tells = λ t p. r .tells (rw (s .told p)
     back : (x : Bool) → a ≡ x → (P → Q) → implies x b ≡ true
     back true e f = r .told (f (s .tells e))
     back false e f = refl
+
+-- the same test of the same fact in other words
+pub restated : {b : Bool} {P Q : Type 0} → Says b P → (P → Q) → (Q → P) → Says b Q
+restated s to from = record { tells = λ e. to (s .tells e); told = λ q. s .told (from q) }

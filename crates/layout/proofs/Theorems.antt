@@ -18,12 +18,12 @@ use Rattle.layout.specs.declared.RasterLayout.{RasterLayout}
 use Rattle.layout.specs.declared.Checked.{Checked}
 use Rattle.layout.specs.declared.Checked.the-variants as Checked-is
 use Rattle.layout.specs.declared.Place.the-variants as Place-is
-use Rattle.layout.specs.Layout.{fields, given, recordOf, completed, encodedWidth, planeChannels, planes, planeLength, scratchLength, outputLength, colours, eightRule, alphaRule, paletteRule, slotsRule, agreement, layoutFaults, recordFaults, indexFaults, sourceIndex, LayoutChecked, RecordChecked, Indexed}
+use Rattle.layout.specs.Layout.{completed, encodedWidth, planeChannels, planes, planeLength, scratchLength, outputLength, colours, eightRule, alphaRule, paletteRule, slotsRule, agreement, layoutFaults, recordFaults, indexFaults, sourceIndex, LayoutChecked, RecordChecked, Indexed}
 use Rattle.layout.specs.Valid.{Valid, Within}
 use Rattle.layout.proofs.Says.{held}
 use Rattle.layout.proofs.Accepted.{Accepted, accepted, all-asked, OneTwoEight, Agreement, agrees}
 use Rattle.layout.proofs.Sizes.{scratch-within}
-use Rattle.layout.proofs.Whole.{agreed-whole, record-whole, record-accepted, record-agreed}
+use Rattle.layout.proofs.Whole.{recordOf, agreed-whole, record-whole, record-accepted, record-agreed}
 use Rattle.layout.proofs.Placed.{source-below}
 use Rattle.layout.proofs.Determined.{checked-once}
 
@@ -52,14 +52,14 @@ accepted-valid f s =
     )
 
 -- and what is valid within the limits is accepted, and is the record that the check answers
-valid-asked : (l : RasterLayout) → Valid l → Within l → Accepted (given l)
+valid-asked : (l : RasterLayout) → Valid l → Within l → Accepted (l .fields)
 unfolding outputLength
 valid-asked l v t =
     record {
       bytes = v .byte-widths;
       some = v .some .1 .0;
       few = v .some .1 .1;
-      slots = by (l .palette) refl;
+      slots = by (l .fields .palette) refl;
       alpha = v .alpha-kinds;
       wide = v .some .0 .0;
       high = v .some .0 .1;
@@ -72,42 +72,50 @@ valid-asked l v t =
       size = t .size;
     }
   where
-    by : (b : Bool) → l .palette ≡ b → OneTwoEight (l .slots)
+    by : (b : Bool) → l .fields .palette ≡ b → OneTwoEight (l .fields .slots)
     by true e = v .with-palette e .0 .0 .1
     by false e = ⊎-elim (λ one. inl (inl one)) (λ q. inr (q .0 .0 .0)) (v .without-palette e)
 
-valid-agrees : (l : RasterLayout) → Valid l → Agreement l (completed (given l))
+valid-agrees : (l : RasterLayout) → Valid l → Agreement l (completed (l .fields))
 unfolding encodedWidth planeChannels planes planeLength scratchLength outputLength colours
 valid-agrees l v =
-    let plane : l .«plane_len» ≡ planeLength (given l) = rw (v .encoded-width, v .plane-channels) at (v .plane-length) in
-    let scratch : l .«scratch_len» ≡ scratchLength (given l) = rw (plane, v .planes) at (v .scratch-length) in
-    ((((((v .encoded-width, v .plane-channels), v .planes), plane), scratch), v .output-length), v .colours)
+    let plane : l .«plane_len» ≡ planeLength (l .fields) = rw (v .encoded-width, v .plane-channels) at (v .plane-length) in
+    let scratch : l .«scratch_len» ≡ scratchLength (l .fields) = rw (plane, v .planes) at (v .scratch-length) in
+    record {
+      encoded-width = v .encoded-width;
+      plane-channels = v .plane-channels;
+      planes = v .planes;
+      plane-length = plane;
+      scratch-length = scratch;
+      output-length = v .output-length;
+      colours = v .colours;
+    }
 
-pub valid-accepted : (l : RasterLayout) → Valid l → Within l → Sound (layoutFaults (given l)) × (l ≡ completed (given l))
-valid-accepted l v t = (all-asked (given l) (valid-asked l v t), agreed-whole l (valid-agrees l v))
+pub valid-accepted : (l : RasterLayout) → Valid l → Within l → Sound (layoutFaults (l .fields)) × (l ≡ completed (l .fields))
+valid-accepted l v t = (all-asked (l .fields) (valid-asked l v t), agreed-whole l (valid-agrees l v))
 
--- the record for eleven numbers is the only valid one
-pub only-record : (f : Fields) (l : RasterLayout) → Valid l → given l ≡ f → l ≡ completed f
+-- the record for what a caller says is the only valid one
+pub only-record : (f : Fields) (l : RasterLayout) → Valid l → l .fields ≡ f → l ≡ completed f
 only-record f l v e = agreed-whole l (valid-agrees l v) ∙ ap completed e
 
 -- of the check itself: it answers a record exactly if that record is valid and within the limits, and says what the caller said
-pub checked-valid : (f : Fields) (l : RasterLayout) → LayoutChecked f (Checked-is.Done l) → (Valid l × Within l) × (given l ≡ f)
+pub checked-valid : (f : Fields) (l : RasterLayout) → LayoutChecked f (Checked-is.Done l) → (Valid l × Within l) × (l .fields ≡ f)
 checked-valid f l p =
-    subst (λ (x : RasterLayout). (Valid x × Within x) × (given x ≡ f)) (done-value (layoutFaults f) (completed f) l (sym p))
+    subst (λ (x : RasterLayout). (Valid x × Within x) × (x .fields ≡ f)) (done-value (layoutFaults f) (completed f) l (sym p))
     (accepted-valid f (done-sound (layoutFaults f) (completed f) l (sym p)), refl)
 
-pub valid-checked : (l : RasterLayout) (answer : Checked) → Valid l → Within l → LayoutChecked (given l) answer → answer ≡ Checked-is.Done l
+pub valid-checked : (l : RasterLayout) (answer : Checked) → Valid l → Within l → LayoutChecked (l .fields) answer → answer ≡ Checked-is.Done l
 valid-checked l answer v t p =
-    let good = valid-accepted l v t in checked-once answer (Checked-is.Done l) (p ∙ sound-done (completed (given l)) (good .0) ∙ ap done (sym (good .1)))
+    let good = valid-accepted l v t in checked-once answer (Checked-is.Done l) (p ∙ sound-done (completed (l .fields)) (good .0) ∙ ap done (sym (good .1)))
 
 -- of the record check: it is content exactly with a record that is valid and within the limits
-pub record-sound : (l : RasterLayout) → Sound (layoutFaults (given l)) → Agreement l (completed (given l)) → Sound (recordFaults l)
-record-sound l s a = sound-more s (next (held (agrees l (completed (given l)) .told a)) none)
+pub record-sound : (l : RasterLayout) → Sound (layoutFaults (l .fields)) → Agreement l (completed (l .fields)) → Sound (recordFaults l)
+record-sound l s a = sound-more s (next (held (agrees l (completed (l .fields)) .told a)) none)
 
 pub record-valid : (l : RasterLayout) → RecordChecked l Done-is.Done → Valid l × Within l
 record-valid l p =
     let s = done-sound (recordFaults l) tt tt (sym p) in
-    subst (λ (x : RasterLayout). Valid x × Within x) (sym (record-whole l s)) (accepted-valid (given l) (all-asked (given l) (record-accepted l s)))
+    subst (λ (x : RasterLayout). Valid x × Within x) (sym (record-whole l s)) (accepted-valid (l .fields) (all-asked (l .fields) (record-accepted l s)))
 
 pub valid-record : (l : RasterLayout) (answer : Done) → Valid l → Within l → RecordChecked l answer → answer ≡ Done-is.Done
 valid-record l answer v t p =
@@ -124,7 +132,7 @@ answered-accepted f l answer p q = done-once answer Done-is.Done (q ∙ sound-do
 -- scratch length never exceeds output length
 pub scratch-within-output : (l : RasterLayout) → Sound (recordFaults l) → l .«scratch_len» ≤ l .«output_len»
 scratch-within-output l s =
-    omega (arith, scratch-within (given l) (record-accepted l s), record-agreed l s .0 .0 .1, record-agreed l s .0 .1)
+    omega (arith, scratch-within (l .fields) (record-accepted l s), record-agreed l s .scratch-length, record-agreed l s .output-length)
 
 pub answered-scratch : (f : Fields) (l : RasterLayout) → LayoutChecked f (Checked-is.Done l) → l .«scratch_len» ≤ l .«output_len»
 answered-scratch f l p = scratch-within-output l (answered-sound f l p)
@@ -139,11 +147,11 @@ index-below-scratch l k at p =
 
 -- the map offset is never a reason: with another one the faults are the same
 abbrev moved : Fields → ℕ → Fields
-moved f map = fields (f .w) (f .h) (f .ch) (f .bytes) (f .slots) (f .palette) (f .separate) (f .le) (f .white) (f .alpha) map
+moved f map = record { w = f .w; h = f .h; ch = f .ch; bytes = f .bytes; slots = f .slots; palette = f .palette; separate = f .separate; le = f .le; white = f .white; alpha = f .alpha; map = map }
 
 abbrev record-moved : RasterLayout → ℕ → RasterLayout
 record-moved l map =
-    recordOf (moved (given l) map) (l .«encoded_width») (l .«plane_channels») (l .planes) (l .«plane_len») (l .«scratch_len») (l .«output_len») (l .colors)
+    recordOf (moved (l .fields) map) (l .«encoded_width») (l .«plane_channels») (l .planes) (l .«plane_len») (l .«scratch_len») (l .«output_len») (l .colors)
 
 pub map-never : (l : RasterLayout) (map k : ℕ) → indexFaults (record-moved l map) k ≡ indexFaults l k
 unfolding eightRule alphaRule paletteRule slotsRule agreement encodedWidth planeChannels planes planeLength scratchLength outputLength colours

@@ -15,16 +15,6 @@ use Rattle.layout.specs.declared.Checked.the-variants as Checked-is
 use Rattle.layout.specs.declared.Place.{Place}
 use Rattle.layout.specs.declared.Place.the-variants as Place-is
 
--- the eleven numbers that a caller says
-abbrev pub fields : ℕ → ℕ → ℕ → ℕ → ℕ → Bool → Bool → Bool → Bool → ℕ → ℕ → Fields
-fields w h ch bytes slots palette separate le white alpha map =
-    record { w = w; h = h; ch = ch; bytes = bytes; slots = slots; palette = palette; separate = separate; le = le; white = white; alpha = alpha; map = map }
-
--- what a record says, without what follows from it
-abbrev pub given : RasterLayout → Fields
-given l =
-    fields (l .w) (l .h) (l .ch) (l .bytes) (l .slots) (l .palette) (l .separate) (l .le) (l .white) (l .alpha) (l .map)
-
 -- what follows: bytes of a row of a plane, bytes at a place of a plane, planes, lengths, and colours of a palette
 unfoldable pub encodedWidth : Fields → ℕ
 encodedWidth f = (f .w - 1) / f .slots + 1
@@ -47,33 +37,19 @@ outputLength f = f .w * f .h * f .ch * f .bytes
 unfoldable pub colours : Fields → ℕ
 colours f = pick (eqb (f .slots) 8) 2 (pick (eqb (f .slots) 2) 16 256)
 
--- a record of what a caller says, with these numbers for what follows
-abbrev pub recordOf : Fields → ℕ → ℕ → ℕ → ℕ → ℕ → ℕ → ℕ → RasterLayout
-recordOf f row place planes plane scratch output colours =
-    record {
-      w = f .w;
-      h = f .h;
-      ch = f .ch;
-      bytes = f .bytes;
-      slots = f .slots;
-      palette = f .palette;
-      separate = f .separate;
-      le = f .le;
-      white = f .white;
-      alpha = f .alpha;
-      «encoded_width» = row;
-      «plane_channels» = place;
-      planes = planes;
-      «plane_len» = plane;
-      «scratch_len» = scratch;
-      «output_len» = output;
-      colors = colours;
-      map = f .map;
-    }
-
 -- the full record
 abbrev pub completed : Fields → RasterLayout
-completed f = recordOf f (encodedWidth f) (planeChannels f) (planes f) (planeLength f) (scratchLength f) (outputLength f) (colours f)
+completed f =
+    record {
+      fields = f;
+      «encoded_width» = encodedWidth f;
+      «plane_channels» = planeChannels f;
+      planes = planes f;
+      «plane_len» = planeLength f;
+      «scratch_len» = scratchLength f;
+      «output_len» = outputLength f;
+      colors = colours f;
+    }
 
 -- step 3's limits: of a width or a height, and of a picture's bytes
 abbrev pub sideLimit : ℕ
@@ -145,14 +121,14 @@ agreement l right =
     && eqb (l .colors) (right .colors)
 
 abbrev pub recordFaults : RasterLayout → List Fault
-recordFaults l = layoutFaults (given l) ++ (invalid (not (agreement l (completed (given l)))) ∷ [])
+recordFaults l = layoutFaults (l .fields) ++ (invalid (not (agreement l (completed (l .fields)))) ∷ [])
 
 -- where byte k of the picture comes from, as upstream's `source_index`: in rows of whole bytes if a byte holds several samples, or a place of the map
 abbrev pub packed : RasterLayout → Bool
-packed l = l .palette || eqb (l .slots) 8
+packed l = l .fields .palette || eqb (l .fields .slots) 8
 
 unfoldable pub packedIndex : RasterLayout → ℕ → ℕ
-packedIndex l k = k / l .ch / l .w * l .«encoded_width» + k / l .ch % l .w / l .slots
+packedIndex l k = k / l .fields .ch / l .fields .w * l .«encoded_width» + k / l .fields .ch % l .fields .w / l .fields .slots
 
 -- the two bytes of a little-endian word change places
 unfoldable pub highFirst : ℕ → Bool → ℕ → ℕ
@@ -161,9 +137,9 @@ highFirst bytes le c = pick (eqb bytes 2 && le) (c - c % 2 + 1 - c % 2) c
 -- else byte by byte, in one plane or in one for each channel
 unfoldable pub plainIndex : RasterLayout → ℕ → ℕ
 plainIndex l k =
-    let stride = l .ch * l .bytes in
+    let stride = l .fields .ch * l .fields .bytes in
     let p = k / stride in
-    let c = highFirst (l .bytes) (l .le) (k % stride) in pick (l .separate) (c / l .bytes * l .«plane_len» + p * l .bytes + c % l .bytes) (p * stride + c)
+    let c = highFirst (l .fields .bytes) (l .fields .le) (k % stride) in pick (l .fields .separate) (c / l .fields .bytes * l .«plane_len» + p * l .fields .bytes + c % l .fields .bytes) (p * stride + c)
 
 abbrev pub sourceIndex : RasterLayout → ℕ → ℕ
 sourceIndex l k = pick (packed l) (packedIndex l k) (plainIndex l k)

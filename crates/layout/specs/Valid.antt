@@ -9,23 +9,23 @@ use Rattle.layout.specs.declared.RasterLayout.{RasterLayout}
 use Rattle.layout.specs.Layout.{sideLimit, byteLimit}
 
 pub record Valid (l : RasterLayout) : Type 0 where
-  pub some : ((0 < l .w) × (0 < l .h)) × ((1 ≤ l .ch) × (l .ch ≤ 4))
-  pub byte-widths : ((l .bytes ≡ 1) ⊎ (l .bytes ≡ 2)) ⊎ (l .bytes ≡ 8)
-  pub eight-bytes : l .bytes ≡ 8 → ((((l .white ≡ false) × (l .palette ≡ false)) × (l .alpha ≡ 0)) × (l .slots ≡ 1)) × ((l .ch ≡ 1) ⊎ (l .ch ≡ 3))
-  pub alpha-kinds : l .alpha ≤ 2
-  pub with-alpha : (l .alpha ≡ 0 → ⊥) → ((l .bytes ≡ 1) × ((l .ch ≡ 2) ⊎ (l .ch ≡ 4))) × (l .palette ≡ false)
-  pub with-palette : l .palette ≡ true → ((((l .ch ≡ 3) × (l .bytes ≡ 1)) × (((l .slots ≡ 1) ⊎ (l .slots ≡ 2)) ⊎ (l .slots ≡ 8))) × (l .separate ≡ false)) × (l .alpha ≡ 0)
-  pub without-palette : l .palette ≡ false → (l .slots ≡ 1) ⊎ ((((l .slots ≡ 8) × (l .ch ≡ 1)) × (l .bytes ≡ 1)) × (l .alpha ≡ 0))
-  pub encoded-width : l .«encoded_width» ≡ (l .w - 1) / l .slots + 1
-  pub plane-channels : l .«plane_channels» ≡ pick (l .palette) 1 (pick (l .separate) (l .bytes) (l .ch * l .bytes))
-  pub planes : l .planes ≡ pick (l .separate) (l .ch) 1
-  pub plane-length : l .«plane_len» ≡ l .«encoded_width» * l .h * l .«plane_channels»
+  pub some : ((0 < l .fields .w) × (0 < l .fields .h)) × ((1 ≤ l .fields .ch) × (l .fields .ch ≤ 4))
+  pub byte-widths : ((l .fields .bytes ≡ 1) ⊎ (l .fields .bytes ≡ 2)) ⊎ (l .fields .bytes ≡ 8)
+  pub eight-bytes : l .fields .bytes ≡ 8 → ((((l .fields .white ≡ false) × (l .fields .palette ≡ false)) × (l .fields .alpha ≡ 0)) × (l .fields .slots ≡ 1)) × ((l .fields .ch ≡ 1) ⊎ (l .fields .ch ≡ 3))
+  pub alpha-kinds : l .fields .alpha ≤ 2
+  pub with-alpha : (l .fields .alpha ≡ 0 → ⊥) → ((l .fields .bytes ≡ 1) × ((l .fields .ch ≡ 2) ⊎ (l .fields .ch ≡ 4))) × (l .fields .palette ≡ false)
+  pub with-palette : l .fields .palette ≡ true → ((((l .fields .ch ≡ 3) × (l .fields .bytes ≡ 1)) × (((l .fields .slots ≡ 1) ⊎ (l .fields .slots ≡ 2)) ⊎ (l .fields .slots ≡ 8))) × (l .fields .separate ≡ false)) × (l .fields .alpha ≡ 0)
+  pub without-palette : l .fields .palette ≡ false → (l .fields .slots ≡ 1) ⊎ ((((l .fields .slots ≡ 8) × (l .fields .ch ≡ 1)) × (l .fields .bytes ≡ 1)) × (l .fields .alpha ≡ 0))
+  pub encoded-width : l .«encoded_width» ≡ (l .fields .w - 1) / l .fields .slots + 1
+  pub plane-channels : l .«plane_channels» ≡ pick (l .fields .palette) 1 (pick (l .fields .separate) (l .fields .bytes) (l .fields .ch * l .fields .bytes))
+  pub planes : l .planes ≡ pick (l .fields .separate) (l .fields .ch) 1
+  pub plane-length : l .«plane_len» ≡ l .«encoded_width» * l .fields .h * l .«plane_channels»
   pub scratch-length : l .«scratch_len» ≡ l .«plane_len» * l .planes
-  pub output-length : l .«output_len» ≡ l .w * l .h * l .ch * l .bytes
-  pub colours : l .colors ≡ pick (eqb (l .slots) 8) 2 (pick (eqb (l .slots) 2) 16 256)
+  pub output-length : l .«output_len» ≡ l .fields .w * l .fields .h * l .fields .ch * l .fields .bytes
+  pub colours : l .colors ≡ pick (eqb (l .fields .slots) 8) 2 (pick (eqb (l .fields .slots) 2) 16 256)
 
 -- step 3's limits
 pub record Within (l : RasterLayout) : Type 0 where
-  pub width : l .w ≤ sideLimit
-  pub height : l .h ≤ sideLimit
-  pub size : l .w * l .h * l .ch * l .bytes ≤ byteLimit
+  pub width : l .fields .w ≤ sideLimit
+  pub height : l .fields .h ≤ sideLimit
+  pub size : l .fields .w * l .fields .h * l .fields .ch * l .fields .bytes ≤ byteLimit

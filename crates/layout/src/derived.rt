@@ -47,16 +47,7 @@ pub(crate) fn complete(f: Fields) -> RasterLayout
     let planes = planes(f);
     let plane_len = encoded_width * f.h * plane_channels;
     RasterLayout {
-        w: f.w,
-        h: f.h,
-        ch: f.ch,
-        bytes: f.bytes,
-        slots: f.slots,
-        palette: f.palette,
-        separate: f.separate,
-        le: f.le,
-        white: f.white,
-        alpha: f.alpha,
+        fields: f,
         encoded_width,
         plane_channels,
         planes,
@@ -64,6 +55,5 @@ pub(crate) fn complete(f: Fields) -> RasterLayout
         scratch_len: plane_len * planes,
         output_len: f.w * f.h * f.ch * f.bytes,
         colors: colors(f),
-        map: f.map,
     }
 }

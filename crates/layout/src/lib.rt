@@ -1,3 +1,4 @@
+// Layouts of pictures: what a caller says of one, what follows from it, whether it can be, and where a byte of the picture comes from.
 use answer::ByteAt;
 use answer::Done;
 use answer::Refusal;
@@ -8,7 +9,7 @@ mod source;
 
 ghost use mathlib.Core.Path.{_≡_};
 ghost use Rattle.answer.specs.Outcome.{doneOutcome};
-ghost use Rattle.layout.specs.Layout.{fields, given as givenOf, layoutFaults, firstOf, agreement, StepPassed, LayoutChecked, RecordChecked, Indexed};
+ghost use Rattle.layout.specs.Layout.{layoutFaults, firstOf, agreement, StepPassed, LayoutChecked, RecordChecked, Indexed};
 
 // What a caller says of a picture: all of a record that is not worked out.
 pub struct Fields {
@@ -27,16 +28,7 @@ pub struct Fields {
 
 // A picture's layout: what a caller says, and what follows from it.
 pub struct RasterLayout {
-    pub w: usize,
-    pub h: usize,
-    pub ch: usize,
-    pub bytes: usize,
-    pub slots: usize,
-    pub palette: bool,
-    pub separate: bool,
-    pub le: bool,
-    pub white: bool,
-    pub alpha: usize,
+    pub fields: Fields,
     pub encoded_width: usize,
     pub plane_channels: usize,
     pub planes: usize,
@@ -44,7 +36,6 @@ pub struct RasterLayout {
     pub scratch_len: usize,
     pub output_len: usize,
     pub colors: usize,
-    pub map: usize,
 }
 
 // The answer of `check_layout`.
@@ -81,54 +72,10 @@ fn check_fields(f: Fields) -> Done
     }
 }
 
-// What a record says, without what follows from it.
-fn given(l: RasterLayout) -> Fields
-    ensures { λ r. ⌜ r ≡ givenOf l ⌝ }
-{
-    Fields {
-        w: l.w,
-        h: l.h,
-        ch: l.ch,
-        bytes: l.bytes,
-        slots: l.slots,
-        palette: l.palette,
-        separate: l.separate,
-        le: l.le,
-        white: l.white,
-        alpha: l.alpha,
-        map: l.map,
-    }
-}
-
 // The full record of a picture, if there is one.
-pub fn check_layout(
-    w: usize,
-    h: usize,
-    ch: usize,
-    bytes: usize,
-    slots: usize,
-    palette: bool,
-    separate: bool,
-    le: bool,
-    white: bool,
-    alpha: usize,
-    map: usize,
-) -> Checked
-    ensures { λ r. ⌜ LayoutChecked (fields w h ch bytes slots palette separate le white alpha map) r ⌝ }
+pub fn check_layout(f: Fields) -> Checked
+    ensures { λ r. ⌜ LayoutChecked f r ⌝ }
 {
-    let f = Fields {
-        w,
-        h,
-        ch,
-        bytes,
-        slots,
-        palette,
-        separate,
-        le,
-        white,
-        alpha,
-        map,
-    };
     match check_fields(f) {
         Done::Refused(k) => Checked::Refused(k),
         Done::Done => Checked::Done(derived::complete(f)),
@@ -164,7 +111,7 @@ fn agrees(l: RasterLayout, right: RasterLayout) -> bool
 pub fn check_record(l: RasterLayout) -> Done
     ensures { λ r. ⌜ RecordChecked l r ⌝ }
 {
-    let f = given(l);
+    let f = l.fields;
     match check_fields(f) {
         Done::Refused(k) => Done::Refused(k),
         Done::Done => {

@@ -7,10 +7,10 @@ ghost use Rattle.layout.specs.Layout.{Asked, packed, packedIndex, highFi
 fn is_packed(l: RasterLayout) -> bool
     ensures { λ r. ⌜ r ≡ packed l ⌝ }
 {
-    if l.palette {
+    if l.fields.palette {
         return true;
     }
-    l.slots == 8
+    l.fields.slots == 8
 }
 
 // Rows of whole bytes.
@@ -18,8 +18,8 @@ fn packed_index(l: RasterLayout, k: usize) -> usize
     requires { ⌜ (Asked l k) × (packed l ≡ true) ⌝ }
     ensures { λ r. ⌜ r ≡ packedIndex l k ⌝ }
 {
-    let p = k / l.ch;
-    p / l.w * l.encoded_width + p % l.w / l.slots
+    let p = k / l.fields.ch;
+    p / l.fields.w * l.encoded_width + p % l.fields.w / l.fields.slots
 }
 
 // The two bytes of a little-endian word change places.
@@ -37,11 +37,11 @@ fn plain_index(l: RasterLayout, k: usize) -> usize
     requires { ⌜ (Asked l k) × (packed l ≡ false) ⌝ }
     ensures { λ r. ⌜ r ≡ plainIndex l k ⌝ }
 {
-    let stride = l.ch * l.bytes;
+    let stride = l.fields.ch * l.fields.bytes;
     let p = k / stride;
-    let c = high_first(l.bytes, l.le, k % stride);
-    if l.separate {
-        c / l.bytes * l.plane_len + p * l.bytes + c % l.bytes
+    let c = high_first(l.fields.bytes, l.fields.le, k % stride);
+    if l.fields.separate {
+        c / l.fields.bytes * l.plane_len + p * l.fields.bytes + c % l.fields.bytes
     } else {
         p * stride + c
     }

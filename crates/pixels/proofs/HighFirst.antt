@@ -20,12 +20,12 @@ use Rattle.layout.proofs.Whole.{record-accepted}
 use Rattle.pixels.specs.Render.{highByte, OneOrTwo}
 
 -- a width that a record has, and that is not 8
-pub one-or-two : (l : RasterLayout) → Sound (recordFaults l) → eqb (l .bytes) 8 ≡ false → OneOrTwo (l .bytes)
+pub one-or-two : (l : RasterLayout) → Sound (recordFaults l) → eqb (l .fields .bytes) 8 ≡ false → OneOrTwo (l .fields .bytes)
 one-or-two l s narrow = by (record-accepted l s .bytes)
   where
-    by : ((l .bytes ≡ 1) ⊎ (l .bytes ≡ 2)) ⊎ (l .bytes ≡ 8) → OneOrTwo (l .bytes)
+    by : ((l .fields .bytes ≡ 1) ⊎ (l .fields .bytes ≡ 2)) ⊎ (l .fields .bytes ≡ 8) → OneOrTwo (l .fields .bytes)
     by (inl w) = w
-    by (inr e) = absurd (eqb-false (l .bytes) 8 narrow e)
+    by (inr e) = absurd (eqb-false (l .fields .bytes) 8 narrow e)
 
 pub some-bytes : {bytes : ℕ} → OneOrTwo bytes → 0 < bytes
 some-bytes (inl e) = omega arith

@@ -42,16 +42,16 @@ module _ (l : RasterLayout) (picture old planes : List ℕ) (w : Written l pictu
   planes-sound : Sound (planeFaults l picture old)
   planes-sound = sound-back (recordFaults l) (planeFaults l picture old) sound
 
-  no-palette : l .palette ≡ false
+  no-palette : l .fields .palette ≡ false
   no-palette = sound-here planes-sound
 
-  not-multiplied : eqb (l .alpha) 1 ≡ false
+  not-multiplied : eqb (l .fields .alpha) 1 ≡ false
   not-multiplied = sound-here (sound-rest (sound-rest planes-sound))
 
   picture-long : l .«output_len» ≤ length picture
   picture-long = ltb-false (length picture) (l .«output_len») (sound-here (sound-rest (sound-rest (sound-rest planes-sound))))
 
-  two-levels : (eqb (l .slots) 8 && not (twoLevels (l .«output_len») picture)) ≡ false
+  two-levels : (eqb (l .fields .slots) 8 && not (twoLevels (l .«output_len») picture)) ≡ false
   two-levels = sound-here (sound-rest (sound-rest (sound-rest (sound-rest (sound-rest planes-sound)))))
 
   planes-front : take (l .«scratch_len») planes ≡ table (l .«scratch_len») (written l picture)
@@ -83,7 +83,7 @@ module _ (l : RasterLayout) (file : List ℕ) where
       written-same l s off out (table (l .«output_len») (converted l file raw)) shown i h ∙ write-rendered l s off (not-multiplied l out old-planes planes w) file raw i h bytes)
 
   -- and where no bits are padding, the planes themselves
-  pub rendered-then-written-plain : (raw old out old-planes planes : List ℕ) → Bytes raw → l .«scratch_len» ≤ length raw → eqb (l .slots) 8 ≡ false → Rendered l file raw old Done-is.Done out → Written l out old-planes Done-is.Done planes → take (l .«scratch_len») planes ≡ take (l .«scratch_len») raw
+  pub rendered-then-written-plain : (raw old out old-planes planes : List ℕ) → Bytes raw → l .«scratch_len» ≤ length raw → eqb (l .fields .slots) 8 ≡ false → Rendered l file raw old Done-is.Done out → Written l out old-planes Done-is.Done planes → take (l .«scratch_len») planes ≡ take (l .«scratch_len») raw
   unfolding unpadded
   rendered-then-written-plain raw old out old-planes planes bytes long several r w =
       rendered-then-written raw old out old-planes planes bytes r w ∙ table-same (l .«scratch_len») _ _ (λ i h. not-picked _ _ several) ∙ own-front (l .«scratch_len») raw long

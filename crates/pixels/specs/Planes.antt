@@ -15,16 +15,16 @@ use Rattle.pixels.specs.Render.{flipped}
 -- the byte of the picture that place i of the planes takes, where a place holds one byte
 unfoldable pub placeIndex : RasterLayout → ℕ → ℕ
 placeIndex l i =
-    let stride = l .ch * l .bytes in
+    let stride = l .fields .ch * l .fields .bytes in
     let within = i % l .«plane_len» in
-    pick (l .separate) (within / l .bytes * stride + highFirst (l .bytes) (l .le) (i / l .«plane_len» * l .bytes + within % l .bytes)) (i / stride * stride + highFirst (l .bytes) (l .le) (i % stride))
+    pick (l .fields .separate) (within / l .fields .bytes * stride + highFirst (l .fields .bytes) (l .fields .le) (i / l .«plane_len» * l .fields .bytes + within % l .fields .bytes)) (i / stride * stride + highFirst (l .fields .bytes) (l .fields .le) (i % stride))
 
 -- white turns every channel over but alpha, and so byte k
 abbrev pub flipsChannel : RasterLayout → ℕ → Bool
-flipsChannel l c = l .white && (eqb (l .alpha) 0 || not (eqb c (l .ch - 1)))
+flipsChannel l c = l .fields .white && (eqb (l .fields .alpha) 0 || not (eqb c (l .fields .ch - 1)))
 
 abbrev pub flips : RasterLayout → ℕ → Bool
-flips l k = flipsChannel l (k % l .ch)
+flips l k = flipsChannel l (k % l .fields .ch)
 
 -- the bit of a bilevel byte
 abbrev pub bilevelBit : Bool → ℕ → ℕ
@@ -37,11 +37,11 @@ column l i p = 8 * (i % l .«encoded_width») + (7 - p)
 -- byte i of bilevel planes, with 0 past the row's end
 unfoldable pub bilevelPlane : RasterLayout → List ℕ → ℕ → ℕ
 bilevelPlane l picture i =
-    value 2 8 (λ p. pick (ltb (column l i p) (l .w)) (bilevelBit (l .white) (getD picture (i / l .«encoded_width» * l .w + column l i p) 0)) 0)
+    value 2 8 (λ p. pick (ltb (column l i p) (l .fields .w)) (bilevelBit (l .fields .white) (getD picture (i / l .«encoded_width» * l .fields .w + column l i p) 0)) 0)
 
 unfoldable pub written : RasterLayout → List ℕ → ℕ → ℕ
 written l picture i =
-    pick (eqb (l .slots) 8) (bilevelPlane l picture i) (flipped (flips l (placeIndex l i)) (getD picture (placeIndex l i) 0))
+    pick (eqb (l .fields .slots) 8) (bilevelPlane l picture i) (flipped (flips l (placeIndex l i)) (getD picture (placeIndex l i) 0))
 
 -- every byte below n is 0 or 255
 abbrev pub twoLevels : ℕ → List ℕ → Bool
@@ -51,12 +51,12 @@ twoLevels (suc n) picture = twoLevels n picture && (eqb (getD picture n 0) 0 || 
 -- document 01's order
 abbrev pub planeFaults : RasterLayout → List ℕ → List ℕ → List Fault
 planeFaults l picture old =
-    unsupported (l .palette)
-    ∷ unsupported (eqb (l .bytes) 8)
-    ∷ unsupported (eqb (l .alpha) 1)
+    unsupported (l .fields .palette)
+    ∷ unsupported (eqb (l .fields .bytes) 8)
+    ∷ unsupported (eqb (l .fields .alpha) 1)
     ∷ truncated (ltb (length picture) (l .«output_len»))
     ∷ outputTooSmall (ltb (length old) (l .«scratch_len»))
-    ∷ invalid (eqb (l .slots) 8 && not (twoLevels (l .«output_len») picture))
+    ∷ invalid (eqb (l .fields .slots) 8 && not (twoLevels (l .«output_len») picture))
     ∷ []
 
 abbrev pub writeFaults : RasterLayout → List ℕ → List ℕ → List Fault
@@ -69,4 +69,4 @@ Written l picture old answer new =
 -- planes with the padding bits of bilevel rows 0: what writing gives back of what was rendered
 unfoldable pub unpadded : RasterLayout → List ℕ → ℕ → ℕ
 unpadded l raw i =
-    pick (eqb (l .slots) 8) (value 2 8 (λ p. pick (ltb (column l i p) (l .w)) (digit 2 p (getD raw i 0)) 0)) (getD raw i 0)
+    pick (eqb (l .fields .slots) 8) (value 2 8 (λ p. pick (ltb (column l i p) (l .fields .w)) (digit 2 p (getD raw i 0)) 0)) (getD raw i 0)

@@ -16,7 +16,7 @@ use Rattle.layout.specs.Layout.{recordFaults, sourceIndex}
 
 -- bytes of a row of the picture, and of a row of a plane
 abbrev pub rowBytes : RasterLayout → ℕ
-rowBytes l = l .w * (l .ch * l .bytes)
+rowBytes l = l .fields .w * (l .fields .ch * l .fields .bytes)
 
 abbrev pub planeRow : RasterLayout → ℕ
 planeRow l = l .«encoded_width» * l .«plane_channels»
@@ -51,10 +51,10 @@ slotShift slots slot = pick (eqb slots 8) (7 - slot) (pick (eqb slots 2) ((1 - s
 
 -- the index that byte v holds for column x, and the more significant byte of a colour's entry: reds, then greens, then blues
 abbrev pub paletteIndex : RasterLayout → ℕ → ℕ → ℕ
-paletteIndex l x v = v / 2 ^ slotShift (l .slots) (x % l .slots) % l .colors
+paletteIndex l x v = v / 2 ^ slotShift (l .fields .slots) (x % l .fields .slots) % l .colors
 
 abbrev pub mapByte : RasterLayout → List ℕ → ℕ → ℕ → ℕ
-mapByte l file c index = wordAt file (l .map + 2 * (c * l .colors + index)) 2 (l .le) / 256
+mapByte l file c index = wordAt file (l .fields .map + 2 * (c * l .colors + index)) 2 (l .fields .le) / 256
 
 -- the byte for column x of a bilevel picture, whose bits stand in v
 abbrev pub bilevelByte : Bool → ℕ → ℕ → ℕ
@@ -62,25 +62,25 @@ bilevelByte white x v = pick (xor (eqb (v / 2 ^ (7 - x % 8) % 2) 0) white) 0 255
 
 -- byte k is a pixel's alpha
 abbrev pub lastChannel : RasterLayout → ℕ → Bool
-lastChannel l k = eqb (k % l .ch) (l .ch - 1)
+lastChannel l k = eqb (k % l .fields .ch) (l .fields .ch - 1)
 
 -- a byte that is neither an index nor bits
 unfoldable pub plainByte : RasterLayout → List ℕ → ℕ → ℕ
 plainByte l raw k =
-    pick (not (eqb (l .alpha) 0) && not (lastChannel l k)) (straightColour (eqb (l .alpha) 1) (l .white) (source l raw k) (source l raw (k - k % l .ch + l .ch - 1)))
-    (flipped (l .white && eqb (l .alpha) 0) (source l raw k))
+    pick (not (eqb (l .fields .alpha) 0) && not (lastChannel l k)) (straightColour (eqb (l .fields .alpha) 1) (l .fields .white) (source l raw k) (source l raw (k - k % l .fields .ch + l .fields .ch - 1)))
+    (flipped (l .fields .white && eqb (l .fields .alpha) 0) (source l raw k))
 
 unfoldable pub converted : RasterLayout → List ℕ → List ℕ → ℕ → ℕ
 converted l file raw k =
-    pick (l .palette) (mapByte l file (k % 3) (paletteIndex l (k / 3 % l .w) (source l raw k)))
-    (pick (eqb (l .slots) 8) (bilevelByte (l .white) (k % l .w) (source l raw k)) (plainByte l raw k))
+    pick (l .fields .palette) (mapByte l file (k % 3) (paletteIndex l (k / 3 % l .fields .w) (source l raw k)))
+    (pick (eqb (l .fields .slots) 8) (bilevelByte (l .fields .white) (k % l .fields .w) (source l raw k)) (plainByte l raw k))
 
 -- document 01's order
 abbrev pub renderFaults : RasterLayout → List ℕ → List ℕ → List ℕ → List Fault
 renderFaults l file raw old =
     recordFaults l
-    ++ (unsupported (eqb (l .bytes) 8)
-    ∷ truncated (l .palette && ltb (length file) (l .map + 6 * l .colors))
+    ++ (unsupported (eqb (l .fields .bytes) 8)
+    ∷ truncated (l .fields .palette && ltb (length file) (l .fields .map + 6 * l .colors))
     ∷ truncated (ltb (length raw) (l .«scratch_len»))
     ∷ outputTooSmall (ltb (length old) (l .«output_len»))
     ∷ [])

@@ -20,33 +20,33 @@ use Rattle.pixels.specs.Finish.{Inverted, straightAt, straightFaults, Straighte
 use Rattle.rendering.specs.Rows.{PlainRow, WholeRow, finishedAt, Finished, Gathered, PlainRendered}
 
 module _ (l : RasterLayout) (old : List ℕ) where
-  straight-same : (j : ℕ) → eqb (l .alpha) 0 ≡ false → straightAt old (l .ch) (eqb (l .alpha) 1) (l .white) j ≡ finishedAt l old j
-  straight-same j e = rw e (by (eqb (j % l .ch) (l .ch - 1)) (l .white))
+  straight-same : (j : ℕ) → eqb (l .fields .alpha) 0 ≡ false → straightAt old (l .fields .ch) (eqb (l .fields .alpha) 1) (l .fields .white) j ≡ finishedAt l old j
+  straight-same j e = rw e (by (eqb (j % l .fields .ch) (l .fields .ch - 1)) (l .fields .white))
     where
-      by : (last white : Bool) → pick last (getD old j 0) (straightColour (eqb (l .alpha) 1) (l .white) (getD old j 0) (getD old (j - j % l .ch + l .ch - 1) 0)) ≡ pick (not last) (straightColour (eqb (l .alpha) 1) (l .white) (getD old j 0) (getD old (j - j % l .ch + l .ch - 1) 0)) (flipped (white && false) (getD old j 0))
+      by : (last white : Bool) → pick last (getD old j 0) (straightColour (eqb (l .fields .alpha) 1) (l .fields .white) (getD old j 0) (getD old (j - j % l .fields .ch + l .fields .ch - 1) 0)) ≡ pick (not last) (straightColour (eqb (l .fields .alpha) 1) (l .fields .white) (getD old j 0) (getD old (j - j % l .fields .ch + l .fields .ch - 1) 0)) (flipped (white && false) (getD old j 0))
       by true true = refl
       by true false = refl
       by false white = refl
 
-  pub straight-finished : WholeRow l old → eqb (l .alpha) 0 ≡ false → (multiplied white : Bool) → eqb (l .alpha) 1 ≡ multiplied → l .white ≡ white → (answer : Done) (new : List ℕ) → Straightened old (l .ch) multiplied white answer new → Finished l old new
+  pub straight-finished : WholeRow l old → eqb (l .fields .alpha) 0 ≡ false → (multiplied white : Bool) → eqb (l .fields .alpha) 1 ≡ multiplied → l .fields .white ≡ white → (answer : Done) (new : List ℕ) → Straightened old (l .fields .ch) multiplied white answer new → Finished l old new
   straight-finished whole e multiplied white m w answer new given-p =
-      let p : Straightened old (l .ch) (eqb (l .alpha) 1) (l .white) answer new = rw (m, w) given-p in
-      finished (straightFaults old (l .ch)) tt (length old) (straightAt old (l .ch) (eqb (l .alpha) 1) (l .white)) old new (next (ne-eqb (l .ch) 0 (omega (arith, whole .some))) (next (ap not (eq-eqb _ _ (whole .pixels e))) none)) p
+      let p : Straightened old (l .fields .ch) (eqb (l .fields .alpha) 1) (l .fields .white) answer new = rw (m, w) given-p in
+      finished (straightFaults old (l .fields .ch)) tt (length old) (straightAt old (l .fields .ch) (eqb (l .fields .alpha) 1) (l .fields .white)) old new (next (ne-eqb (l .fields .ch) 0 (omega (arith, whole .some))) (next (ap not (eq-eqb _ _ (whole .pixels e))) none)) p
       ∙ filled-all (length old) _ old (omega arith)
       ∙ table-same (length old) _ _ (λ j h. straight-same j e)
 
-  pub inverted-finished : eqb (l .alpha) 0 ≡ true → l .white ≡ true → (new : List ℕ) → Inverted old new → Finished l old new
+  pub inverted-finished : eqb (l .fields .alpha) 0 ≡ true → l .fields .white ≡ true → (new : List ℕ) → Inverted old new → Finished l old new
   inverted-finished e white new p = p ∙ table-same (length old) _ _ (λ j h. sym (turned-over j))
     where
       turned-over : (j : ℕ) → finishedAt l old j ≡ 255 - getD old j 0
       turned-over j = rw (e, white)
 
   -- neither white nor colours multiplied by alpha
-  pub same-finished : eqb (l .alpha) 1 ≡ false → l .white ≡ false → Finished l old old
+  pub same-finished : eqb (l .fields .alpha) 1 ≡ false → l .fields .white ≡ false → Finished l old old
   same-finished e white = sym (table-same (length old) _ _ (λ j h. as-is j) ∙ table-self old)
     where
       as-is : (j : ℕ) → finishedAt l old j ≡ getD old j 0
-      as-is j = rw (e, white) (by (not (eqb (l .alpha) 0) && not (eqb (j % l .ch) (l .ch - 1))))
+      as-is j = rw (e, white) (by (not (eqb (l .fields .alpha) 0) && not (eqb (j % l .fields .ch) (l .fields .ch - 1))))
         where
           by : (b : Bool) → pick b (getD old j 0) (getD old j 0) ≡ getD old j 0
           by true = refl
@@ -54,21 +54,21 @@ module _ (l : RasterLayout) (old : List ℕ) where
 
 module _ {l : RasterLayout} {raw : List ℕ} {y : ℕ} {out : List ℕ} (row : PlainRow l raw y out) where
   -- beside alpha a channel is one byte
-  one-byte : eqb (l .alpha) 0 ≡ false → rowBytes l ≡ l .w * l .ch
+  one-byte : eqb (l .fields .alpha) 0 ≡ false → rowBytes l ≡ l .fields .w * l .fields .ch
   one-byte e =
-      let one : l .bytes ≡ 1 = record-accepted l (row .sound) .covered (eqb-false (l .alpha) 0 e) .0 .0 in
-      ap (λ (n : ℕ). l .w * (l .ch * n)) one ∙ ap (λ (n : ℕ). l .w * n) (mul-one (l .ch))
+      let one : l .fields .bytes ≡ 1 = record-accepted l (row .sound) .covered (eqb-false (l .fields .alpha) 0 e) .0 .0 in
+      ap (λ (n : ℕ). l .fields .w * (l .fields .ch * n)) one ∙ ap (λ (n : ℕ). l .fields .w * n) (mul-one (l .fields .ch))
 
   pub whole-row : (mid : List ℕ) → length mid ≡ length out → WholeRow l mid
   whole-row mid same =
       record {
         some = record-accepted l (row .sound) .some;
-        pixels = λ e. ap (λ (n : ℕ). n % l .ch) (same ∙ row .room ∙ one-byte e) ∙ mul-mod-left (l .w) (l .ch);
+        pixels = λ e. ap (λ (n : ℕ). n % l .fields .ch) (same ∙ row .room ∙ one-byte e) ∙ mul-mod-left (l .fields .w) (l .fields .ch);
       }
 
   pub plain-rendered : (mid new : List ℕ) → Gathered l raw y out mid → Finished l mid new → PlainRendered l raw y out new
   unfolding plainByte
-  plain-rendered mid new g p = p ∙ ap (λ (n : ℕ). table n (finishedAt l mid)) same ∙ table-same (length out) _ _ (λ j h. each j h (eqb (l .alpha) 0) refl)
+  plain-rendered mid new g p = p ∙ ap (λ (n : ℕ). table n (finishedAt l mid)) same ∙ table-same (length out) _ _ (λ j h. each j h (eqb (l .fields .alpha) 0) refl)
     where
       same : length mid ≡ length out
       same = ap length g ∙ length-table (length out) _
@@ -79,13 +79,13 @@ module _ {l : RasterLayout} {raw : List ℕ} {y : ℕ} {out : List ℕ} (row : P
       gathered : (i : ℕ) → i < length out → getD mid i 0 ≡ source l raw (from + i)
       gathered i h = ap (λ (m : List ℕ). getD m i 0) g ∙ table-at (length out) _ i h
 
-      each : (j : ℕ) → j < length out → (b : Bool) → eqb (l .alpha) 0 ≡ b → finishedAt l mid j ≡ plainByte l raw (from + j)
+      each : (j : ℕ) → j < length out → (b : Bool) → eqb (l .fields .alpha) 0 ≡ b → finishedAt l mid j ≡ plainByte l raw (from + j)
       each j h true e = rw (e, gathered j h)
       each j h false e =
           let some = record-accepted l (row .sound) .some in
-          let channel : (from + j) % l .ch ≡ j % l .ch = ap (λ (n : ℕ). (y * n + j) % l .ch) (one-byte e) ∙ ap (λ (n : ℕ). (n + j) % l .ch) (sym (mul-assoc y (l .w) (l .ch))) ∙ mul-add-mod-self-right (y * l .w) (l .ch) j in
-          let pixel : j / l .ch < l .w = div-lt-iff-lt-mul some .1 (omega (arith, row .room, one-byte e)) in
-          let end : (j / l .ch + 1) * l .ch ≤ l .w * l .ch = mul-le-mul-right (l .ch) (omega (arith, pixel)) in
-          let within : j - j % l .ch + l .ch - 1 < length out = omega (arith, row .room, one-byte e, div-add-mod' j (l .ch), add-mul (j / l .ch) 1 (l .ch), one-mul (l .ch)) in
-          let alpha : from + (j - j % l .ch + l .ch - 1) ≡ from + j - j % l .ch + l .ch - 1 = omega (arith, mod-le j (l .ch)) in
-          rw (e, gathered j h, gathered (j - j % l .ch + l .ch - 1) within, alpha, channel)
+          let channel : (from + j) % l .fields .ch ≡ j % l .fields .ch = ap (λ (n : ℕ). (y * n + j) % l .fields .ch) (one-byte e) ∙ ap (λ (n : ℕ). (n + j) % l .fields .ch) (sym (mul-assoc y (l .fields .w) (l .fields .ch))) ∙ mul-add-mod-self-right (y * l .fields .w) (l .fields .ch) j in
+          let pixel : j / l .fields .ch < l .fields .w = div-lt-iff-lt-mul some .1 (omega (arith, row .room, one-byte e)) in
+          let end : (j / l .fields .ch + 1) * l .fields .ch ≤ l .fields .w * l .fields .ch = mul-le-mul-right (l .fields .ch) (omega (arith, pixel)) in
+          let within : j - j % l .fields .ch + l .fields .ch - 1 < length out = omega (arith, row .room, one-byte e, div-add-mod' j (l .fields .ch), add-mul (j / l .fields .ch) 1 (l .fields .ch), one-mul (l .fields .ch)) in
+          let alpha : from + (j - j % l .fields .ch + l .fields .ch - 1) ≡ from + j - j % l .fields .ch + l .fields .ch - 1 = omega (arith, mod-le j (l .fields .ch)) in
+          rw (e, gathered j h, gathered (j - j % l .fields .ch + l .fields .ch - 1) within, alpha, channel)

@@ -21,7 +21,7 @@ use Rattle.pixels.proofs.Places.{output-rows}
 use Rattle.rendering.specs.Rows.{PlainRow, PlainRendered, Served, RowOf, RowRendered, RowsRendered}
 
 pub record Rows (l : RasterLayout) (file raw old : List ℕ) (y at : ℕ) (out : List ℕ) : Type 0 where
-  pub inside : y ≤ l .h
+  pub inside : y ≤ l .fields .h
   pub at-is : at ≡ y * rowBytes l
   pub same : length out ≡ length old
   pub so-far : out ≡ filled at (converted l file raw) old
@@ -31,18 +31,18 @@ rows-none l file raw old = record { inside = omega arith; at-is = sym (zero-mul 
 
 module _ {l : RasterLayout} {file raw old : List ℕ} (served : Served l file raw old) where
   -- no product wraps
-  pub row-small : (l .ch * l .bytes ≤ rowBytes l) × (rowBytes l ≤ byteLimit)
+  pub row-small : (l .fields .ch * l .fields .bytes ≤ rowBytes l) × (rowBytes l ≤ byteLimit)
   row-small =
       let shown = record-accepted l (served .sound) in
-      let pixel : 1 * (l .ch * l .bytes) ≤ l .w * (l .ch * l .bytes) = mul-le-mul-right (l .ch * l .bytes) (shown .wide) in
-      let one : 1 * rowBytes l ≤ l .h * rowBytes l = mul-le-mul-right (rowBytes l) (shown .high) in
-      (omega (arith, one-mul (l .ch * l .bytes)), omega (arith, one-mul (rowBytes l), output-rows l (served .sound), record-agreed l (served .sound) .0 .1, shown .size))
+      let pixel : 1 * (l .fields .ch * l .fields .bytes) ≤ l .fields .w * (l .fields .ch * l .fields .bytes) = mul-le-mul-right (l .fields .ch * l .fields .bytes) (shown .wide) in
+      let one : 1 * rowBytes l ≤ l .fields .h * rowBytes l = mul-le-mul-right (rowBytes l) (shown .high) in
+      (omega (arith, one-mul (l .fields .ch * l .fields .bytes)), omega (arith, one-mul (rowBytes l), output-rows l (served .sound), record-agreed l (served .sound) .output-length, shown .size))
 
   module _ {y at : ℕ} {out : List ℕ} (is : Rows l file raw old y at out) where
-    module _ (more : y < l .h) where
+    module _ (more : y < l .fields .h) where
       pub row-room : at + rowBytes l ≤ l .«output_len»
       row-room =
-          let all : (y + 1) * rowBytes l ≤ l .h * rowBytes l = mul-le-mul-right (rowBytes l) (omega arith) in
+          let all : (y + 1) * rowBytes l ≤ l .fields .h * rowBytes l = mul-le-mul-right (rowBytes l) (omega arith) in
           omega (arith, is .at-is, output-rows l (served .sound), add-mul y 1 (rowBytes l), one-mul (rowBytes l))
 
       wide : length (part at (at + rowBytes l) out) ≡ at + rowBytes l - at
@@ -63,23 +63,23 @@ module _ {l : RasterLayout} {file raw old : List ℕ} (served : Served l file ra
             so-far = now;
           }
 
-    pub rows-ended : l .h ≤ y → RowsRendered l file raw old out
+    pub rows-ended : l .fields .h ≤ y → RowsRendered l file raw old out
     rows-ended end =
-        let last : y ≡ l .h = omega (arith, is .inside) in
+        let last : y ≡ l .fields .h = omega (arith, is .inside) in
         is .so-far ∙ ap (λ (n : ℕ). filled n (converted l file raw) old) (is .at-is ∙ ap (λ (n : ℕ). n * rowBytes l) last ∙ sym (output-rows l (served .sound)))
 
 -- a row whose bytes are bytes of the planes
 pub plain-row-of : {l : RasterLayout} {file raw : List ℕ} {y : ℕ} {out : List ℕ} → RowOf l file raw y out → packed l ≡ false → PlainRow l raw y out
 plain-row-of row e = record { sound = row .sound; bytes = row .bytes; planes = row .planes; plain = e; row = row .row; room = row .room }
 
-pub plain-row-rendered : (l : RasterLayout) (file raw : List ℕ) (y : ℕ) (out new : List ℕ) → l .palette ≡ false → eqb (l .slots) 8 ≡ false → PlainRendered l raw y out new → RowRendered l file raw y out new
+pub plain-row-rendered : (l : RasterLayout) (file raw : List ℕ) (y : ℕ) (out new : List ℕ) → l .fields .palette ≡ false → eqb (l .fields .slots) 8 ≡ false → PlainRendered l raw y out new → RowRendered l file raw y out new
 unfolding converted
 plain-row-rendered l file raw y out new off several p = p ∙ table-same (length out) _ _ (λ j h. sym (not-picked _ _ off ∙ not-picked _ _ several))
 
 -- a palette has few colours, and its map is in the file
 pub colours-few : (l : RasterLayout) → Sound (recordFaults l) → l .colors ≤ 256
 unfolding colours
-colours-few l s = rw (record-agreed l s .1) (by (eqb (l .slots) 8) (eqb (l .slots) 2))
+colours-few l s = rw (record-agreed l s .colours) (by (eqb (l .fields .slots) 8) (eqb (l .fields .slots) 2))
   where
     by : (a b : Bool) → pick a 2 (pick b 16 256) ≤ 256
     by true b = omega arith

@@ -14,18 +14,18 @@ use Rattle.pixels.specs.Render.{rowBytes, flipped, OneOrTwo, straightColour, so
 -- past every refusal
 pub record Served (l : RasterLayout) (file raw out : List ℕ) : Type 0 where
   pub sound : Sound (recordFaults l)
-  pub bytes : eqb (l .bytes) 8 ≡ false
-  pub map : l .palette ≡ true → l .map + 6 * l .colors ≤ length file
+  pub bytes : eqb (l .fields .bytes) 8 ≡ false
+  pub map : l .fields .palette ≡ true → l .fields .map + 6 * l .colors ≤ length file
   pub planes : l .«scratch_len» ≤ length raw
   pub room : l .«output_len» ≤ length out
 
 -- row y, and room for it alone
 pub record RowOf (l : RasterLayout) (file raw : List ℕ) (y : ℕ) (out : List ℕ) : Type 0 where
   pub sound : Sound (recordFaults l)
-  pub bytes : eqb (l .bytes) 8 ≡ false
-  pub map : l .palette ≡ true → l .map + 6 * l .colors ≤ length file
+  pub bytes : eqb (l .fields .bytes) 8 ≡ false
+  pub map : l .fields .palette ≡ true → l .fields .map + 6 * l .colors ≤ length file
   pub planes : l .«scratch_len» ≤ length raw
-  pub row : y < l .h
+  pub row : y < l .fields .h
   pub room : length out ≡ rowBytes l
 
 abbrev pub RowsRendered : RasterLayout → List ℕ → List ℕ → List ℕ → List ℕ → Type 0
@@ -38,10 +38,10 @@ Colours l = l .colors ≤ 256
 -- and a byte of the picture is a byte of the planes
 pub record PlainRow (l : RasterLayout) (raw : List ℕ) (y : ℕ) (out : List ℕ) : Type 0 where
   pub sound : Sound (recordFaults l)
-  pub bytes : eqb (l .bytes) 8 ≡ false
+  pub bytes : eqb (l .fields .bytes) 8 ≡ false
   pub planes : l .«scratch_len» ≤ length raw
   pub plain : packed l ≡ false
-  pub row : y < l .h
+  pub row : y < l .fields .h
   pub room : length out ≡ rowBytes l
 
 abbrev pub RowRendered : RasterLayout → List ℕ → List ℕ → ℕ → List ℕ → List ℕ → Type 0
@@ -56,13 +56,13 @@ Gathered l raw y old new = new ≡ table (length old) (λ j. source l raw (y * r
 -- byte j of a row once its bytes stand in the picture's order
 abbrev pub finishedAt : RasterLayout → List ℕ → ℕ → ℕ
 finishedAt l old j =
-    pick (not (eqb (l .alpha) 0) && not (eqb (j % l .ch) (l .ch - 1))) (straightColour (eqb (l .alpha) 1) (l .white) (getD old j 0) (getD old (j - j % l .ch + l .ch - 1) 0))
-    (flipped (l .white && eqb (l .alpha) 0) (getD old j 0))
+    pick (not (eqb (l .fields .alpha) 0) && not (eqb (j % l .fields .ch) (l .fields .ch - 1))) (straightColour (eqb (l .fields .alpha) 1) (l .fields .white) (getD old j 0) (getD old (j - j % l .fields .ch + l .fields .ch - 1) 0))
+    (flipped (l .fields .white && eqb (l .fields .alpha) 0) (getD old j 0))
 
 -- whole pixels, where there is alpha
 pub record WholeRow (l : RasterLayout) (out : List ℕ) : Type 0 where
-  pub some : 0 < l .ch
-  pub pixels : eqb (l .alpha) 0 ≡ false → length out % l .ch ≡ 0
+  pub some : 0 < l .fields .ch
+  pub pixels : eqb (l .fields .alpha) 0 ≡ false → length out % l .fields .ch ≡ 0
 
 abbrev pub Finished : RasterLayout → List ℕ → List ℕ → Type 0
 Finished l old new = new ≡ table (length old) (finishedAt l old)

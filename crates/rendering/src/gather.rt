@@ -119,15 +119,15 @@ fn planes(
 
 // The same, with the width and the byte order said outright: a loop for each.
 fn known_planes(l: RasterLayout, raw: &[u8], from: usize, out: &mut [u8])
-    requires { ⌜ PlanesFit (now raw) (l .«plane_len») from (l .ch) (l .bytes) (now out) ⌝ }
-    ensures { λ r. ⌜ PlanesInto (now (raw .entry)) (l .«plane_len») from (l .ch) (l .bytes) (l .le) (now (out .entry)) (now (out .exit)) ⌝ }
+    requires { ⌜ PlanesFit (now raw) (l .«plane_len») from (l .fields .ch) (l .fields .bytes) (now out) ⌝ }
+    ensures { λ r. ⌜ PlanesInto (now (raw .entry)) (l .«plane_len») from (l .fields .ch) (l .fields .bytes) (l .fields .le) (now (out .entry)) (now (out .exit)) ⌝ }
 {
-    if l.bytes != 2 {
-        planes(raw, l.plane_len, from, l.ch, 1, l.le, out);
-    } else if l.le {
-        planes(raw, l.plane_len, from, l.ch, 2, true, out);
+    if l.fields.bytes != 2 {
+        planes(raw, l.plane_len, from, l.fields.ch, 1, l.fields.le, out);
+    } else if l.fields.le {
+        planes(raw, l.plane_len, from, l.fields.ch, 2, true, out);
     } else {
-        planes(raw, l.plane_len, from, l.ch, 2, false, out);
+        planes(raw, l.plane_len, from, l.fields.ch, 2, false, out);
     }
 }
 
@@ -136,10 +136,10 @@ pub(crate) fn gather(l: RasterLayout, raw: &[u8], y: usize, out: &mut [u8])
     ensures { λ r. ⌜ Gathered l (now (raw .entry)) y (now (out .entry)) (now (out .exit)) ⌝ }
 {
     let from = y * (l.encoded_width * l.plane_channels);
-    if l.separate {
+    if l.fields.separate {
         known_planes(l, raw, from, out);
     } else {
         let end = from + out.len();
-        samples::reorder(&raw[from..end], l.bytes, l.le, false, out);
+        samples::reorder(&raw[from..end], l.fields.bytes, l.fields.le, false, out);
     }
 }

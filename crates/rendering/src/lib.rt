@@ -21,10 +21,10 @@ fn packed_row(l: RasterLayout, file: &[u8], raw: &[u8], y: usize, out: &mut [u8]
     let from = y * l.encoded_width;
     let end = from + l.encoded_width;
     let row = &raw[from..end];
-    if l.palette {
-        packed::palette_row(file, l.map, l.slots, l.le, row, out);
+    if l.fields.palette {
+        packed::palette_row(file, l.fields.map, l.fields.slots, l.fields.le, row, out);
     } else {
-        packed::bilevel_row(row, l.white, out);
+        packed::bilevel_row(row, l.fields.white, out);
     }
 }
 
@@ -32,9 +32,9 @@ fn render_row(l: RasterLayout, file: &[u8], raw: &[u8], y: usize, out: &mut [u8]
     requires { ⌜ RowOf l (now file) (now raw) y (now out) ⌝ }
     ensures { λ r. ⌜ RowRendered l (now (file .entry)) (now (raw .entry)) y (now (out .entry)) (now (out .exit)) ⌝ }
 {
-    if l.palette {
+    if l.fields.palette {
         packed_row(l, file, raw, y, out);
-    } else if l.slots == 8 {
+    } else if l.fields.slots == 8 {
         packed_row(l, file, raw, y, out);
     } else {
         plain::plain_row(l, raw, y, out);
@@ -45,10 +45,10 @@ fn render_rows(l: RasterLayout, file: &[u8], raw: &[u8], out: &mut [u8])
     requires { ⌜ Served l (now file) (now raw) (now out) ⌝ }
     ensures { λ r. ⌜ RowsRendered l (now (file .entry)) (now (raw .entry)) (now (out .entry)) (now (out .exit)) ⌝ }
 {
-    let row_bytes = l.w * (l.ch * l.bytes);
+    let row_bytes = l.fields.w * (l.fields.ch * l.fields.bytes);
     let mut at: usize = 0;
     let mut y: usize = 0;
-    while y < l.h {
+    while y < l.fields.h {
         let end = at + row_bytes;
         render_row(l, file, raw, y, &mut out[at..end]);
         at = end;
@@ -59,15 +59,15 @@ fn render_rows(l: RasterLayout, file: &[u8], raw: &[u8], out: &mut [u8])
 // Whether the palette's map lies beyond the file, in whole numbers.
 fn map_beyond(l: RasterLayout, length: usize) -> bool
     requires { ⌜ Colours l ⌝ }
-    ensures { λ r. ⌜ r ≡ (l .palette && ltb length (l .map + 6 * l .colors)) ⌝ }
+    ensures { λ r. ⌜ r ≡ (l .fields .palette && ltb length (l .fields .map + 6 * l .colors)) ⌝ }
 {
-    if !l.palette {
+    if !l.fields.palette {
         return false;
     }
-    if length < l.map {
+    if length < l.fields.map {
         return true;
     }
-    length - l.map < 6 * l.colors
+    length - l.fields.map < 6 * l.colors
 }
 
 // The picture that planes of this layout hold; `file` has the colours of a palette.
@@ -77,7 +77,7 @@ pub fn render(l: RasterLayout, file: &[u8], raw: &[u8], out: &mut [u8]) -> Done
     match layout::check_record(l) {
         Done::Refused(k) => Done::Refused(k),
         Done::Done => {
-            if l.bytes == 8 {
+            if l.fields.bytes == 8 {
                 return Done::Refused(Refusal::Unsupported);
             }
             if map_beyond(l, file.len()) {

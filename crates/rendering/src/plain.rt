@@ -8,13 +8,13 @@ fn finish(l: RasterLayout, out: &mut [u8])
     requires { ⌜ WholeRow l (now out) ⌝ }
     ensures { λ r. ⌜ Finished l (now (out .entry)) (now (out .exit)) ⌝ }
 {
-    if l.alpha == 1 {
-        pixels::straighten_row(out, l.ch, true, l.white);
-    } else if l.white {
-        if l.alpha == 0 {
+    if l.fields.alpha == 1 {
+        pixels::straighten_row(out, l.fields.ch, true, l.fields.white);
+    } else if l.fields.white {
+        if l.fields.alpha == 0 {
             pixels::invert(out);
         } else {
-            pixels::straighten_row(out, l.ch, false, true);
+            pixels::straighten_row(out, l.fields.ch, false, true);
         }
     }
 }

@@ -47,51 +47,51 @@ taken-valid l (inr c) = Theorems.checked-valid (c .0) l (c .1) .0
 pub valid-taken : (l : RasterLayout) → Valid l → Within l → (answer : Done) → RecordChecked l answer → answer ≡ Done-is.Done
 valid-taken l v t answer p = Theorems.valid-record l answer v t p
 
-pub valid-answered : (l : RasterLayout) → Valid l → Within l → (answer : Checked) → LayoutChecked (given l) answer → answer ≡ Checked-is.Done l
+pub valid-answered : (l : RasterLayout) → Valid l → Within l → (answer : Checked) → LayoutChecked (l .fields) answer → answer ≡ Checked-is.Done l
 valid-answered l v t answer p = Theorems.valid-checked l answer v t p
 
 -- `valid`, line by line
 module _ (l : RasterLayout) (t : Taken l) where
-  pub valid-sides-and-channels : ((0 < l .w) × (0 < l .h)) × ((1 ≤ l .ch) × (l .ch ≤ 4))
+  pub valid-sides-and-channels : ((0 < l .fields .w) × (0 < l .fields .h)) × ((1 ≤ l .fields .ch) × (l .fields .ch ≤ 4))
   valid-sides-and-channels = taken-valid l t .0 .some
 
-  pub valid-bytes : ((l .bytes ≡ 1) ⊎ (l .bytes ≡ 2)) ⊎ (l .bytes ≡ 8)
+  pub valid-bytes : ((l .fields .bytes ≡ 1) ⊎ (l .fields .bytes ≡ 2)) ⊎ (l .fields .bytes ≡ 8)
   valid-bytes = taken-valid l t .0 .byte-widths
 
-  pub valid-eight-bytes : l .bytes ≡ 8 → ((((l .white ≡ false) × (l .palette ≡ false)) × (l .alpha ≡ 0)) × (l .slots ≡ 1)) × ((l .ch ≡ 1) ⊎ (l .ch ≡ 3))
+  pub valid-eight-bytes : l .fields .bytes ≡ 8 → ((((l .fields .white ≡ false) × (l .fields .palette ≡ false)) × (l .fields .alpha ≡ 0)) × (l .fields .slots ≡ 1)) × ((l .fields .ch ≡ 1) ⊎ (l .fields .ch ≡ 3))
   valid-eight-bytes = taken-valid l t .0 .eight-bytes
 
-  pub valid-alpha-kinds : l .alpha ≤ 2
+  pub valid-alpha-kinds : l .fields .alpha ≤ 2
   valid-alpha-kinds = taken-valid l t .0 .alpha-kinds
 
-  pub valid-with-alpha : (l .alpha ≡ 0 → ⊥) → ((l .bytes ≡ 1) × ((l .ch ≡ 2) ⊎ (l .ch ≡ 4))) × (l .palette ≡ false)
+  pub valid-with-alpha : (l .fields .alpha ≡ 0 → ⊥) → ((l .fields .bytes ≡ 1) × ((l .fields .ch ≡ 2) ⊎ (l .fields .ch ≡ 4))) × (l .fields .palette ≡ false)
   valid-with-alpha = taken-valid l t .0 .with-alpha
 
-  pub valid-with-palette : l .palette ≡ true → ((((l .ch ≡ 3) × (l .bytes ≡ 1)) × (((l .slots ≡ 1) ⊎ (l .slots ≡ 2)) ⊎ (l .slots ≡ 8))) × (l .separate ≡ false)) × (l .alpha ≡ 0)
+  pub valid-with-palette : l .fields .palette ≡ true → ((((l .fields .ch ≡ 3) × (l .fields .bytes ≡ 1)) × (((l .fields .slots ≡ 1) ⊎ (l .fields .slots ≡ 2)) ⊎ (l .fields .slots ≡ 8))) × (l .fields .separate ≡ false)) × (l .fields .alpha ≡ 0)
   valid-with-palette = taken-valid l t .0 .with-palette
 
-  pub valid-without-palette : l .palette ≡ false → (l .slots ≡ 1) ⊎ ((((l .slots ≡ 8) × (l .ch ≡ 1)) × (l .bytes ≡ 1)) × (l .alpha ≡ 0))
+  pub valid-without-palette : l .fields .palette ≡ false → (l .fields .slots ≡ 1) ⊎ ((((l .fields .slots ≡ 8) × (l .fields .ch ≡ 1)) × (l .fields .bytes ≡ 1)) × (l .fields .alpha ≡ 0))
   valid-without-palette = taken-valid l t .0 .without-palette
 
-  pub valid-encoded-width : l .«encoded_width» ≡ (l .w - 1) / l .slots + 1
+  pub valid-encoded-width : l .«encoded_width» ≡ (l .fields .w - 1) / l .fields .slots + 1
   valid-encoded-width = taken-valid l t .0 .encoded-width
 
-  pub valid-plane-channels : l .«plane_channels» ≡ pick (l .palette) 1 (pick (l .separate) (l .bytes) (l .ch * l .bytes))
+  pub valid-plane-channels : l .«plane_channels» ≡ pick (l .fields .palette) 1 (pick (l .fields .separate) (l .fields .bytes) (l .fields .ch * l .fields .bytes))
   valid-plane-channels = taken-valid l t .0 .plane-channels
 
-  pub valid-planes : l .planes ≡ pick (l .separate) (l .ch) 1
+  pub valid-planes : l .planes ≡ pick (l .fields .separate) (l .fields .ch) 1
   valid-planes = taken-valid l t .0 .planes
 
-  pub valid-plane-length : l .«plane_len» ≡ l .«encoded_width» * l .h * l .«plane_channels»
+  pub valid-plane-length : l .«plane_len» ≡ l .«encoded_width» * l .fields .h * l .«plane_channels»
   valid-plane-length = taken-valid l t .0 .plane-length
 
   pub valid-scratch-length : l .«scratch_len» ≡ l .«plane_len» * l .planes
   valid-scratch-length = taken-valid l t .0 .scratch-length
 
-  pub valid-output-length : l .«output_len» ≡ l .w * l .h * l .ch * l .bytes
+  pub valid-output-length : l .«output_len» ≡ l .fields .w * l .fields .h * l .fields .ch * l .fields .bytes
   valid-output-length = taken-valid l t .0 .output-length
 
-  pub valid-colors : l .colors ≡ pick (eqb (l .slots) 8) 2 (pick (eqb (l .slots) 2) 16 256)
+  pub valid-colors : l .colors ≡ pick (eqb (l .fields .slots) 8) 2 (pick (eqb (l .fields .slots) 2) 16 256)
   valid-colors = taken-valid l t .0 .colours
 
 -- `index`
@@ -122,31 +122,31 @@ module _ (l : RasterLayout) (k : ℕ) where
 
 -- what `well_formed` says of a layout besides, with step 3's limit for its largest output
 module _ (l : RasterLayout) (v : Valid l) (t : Within l) where
-  bytes-some : 0 < l .bytes
+  bytes-some : 0 < l .fields .bytes
   bytes-some = by (v .byte-widths)
     where
-      by : ((l .bytes ≡ 1) ⊎ (l .bytes ≡ 2)) ⊎ (l .bytes ≡ 8) → 0 < l .bytes
+      by : ((l .fields .bytes ≡ 1) ⊎ (l .fields .bytes ≡ 2)) ⊎ (l .fields .bytes ≡ 8) → 0 < l .fields .bytes
       by (inl (inl e)) = omega arith
       by (inl (inr e)) = omega arith
       by (inr e) = omega arith
 
-  place-some : (p s : Bool) → 0 < pick p 1 (pick s (l .bytes) (l .ch * l .bytes))
+  place-some : (p s : Bool) → 0 < pick p 1 (pick s (l .fields .bytes) (l .fields .ch * l .fields .bytes))
   place-some true s = omega arith
   place-some false true = bytes-some
   place-some false false = mul-pos (v .some .1 .0) bytes-some
 
-  few : (s : Bool) → (1 ≤ pick s (l .ch) 1) × (pick s (l .ch) 1 ≤ 4)
+  few : (s : Bool) → (1 ≤ pick s (l .fields .ch) 1) × (pick s (l .fields .ch) 1 ≤ 4)
   few true = v .some .1
   few false = (omega arith, omega arith)
 
   pub well-formed-plane-length : 0 < l .«plane_len»
   well-formed-plane-length =
       let row : 0 < l .«encoded_width» = omega (arith, v .encoded-width) in
-      let place : 0 < l .«plane_channels» = rw (v .plane-channels) (place-some (l .palette) (l .separate)) in
+      let place : 0 < l .«plane_channels» = rw (v .plane-channels) (place-some (l .fields .palette) (l .fields .separate)) in
       rw (v .plane-length) (mul-pos (mul-pos row (v .some .0 .1)) place)
 
   pub well-formed-planes : (1 ≤ l .planes) × (l .planes ≤ 4)
-  well-formed-planes = rw (v .planes) (few (l .separate))
+  well-formed-planes = rw (v .planes) (few (l .fields .separate))
 
   pub well-formed-lengths : (l .«output_len» ≤ byteLimit) × (l .«scratch_len» ≤ byteLimit)
   well-formed-lengths = (rw (v .output-length) (t .size), scratch-limited l (valid-record-sound l v t))
@@ -155,28 +155,28 @@ module _ (l : RasterLayout) (v : Valid l) (t : Within l) where
 pub record RenderPremises (l : RasterLayout) (file raw old : List ℕ) : Type 0 where
   pub valid : Valid l
   pub within : Within l
-  pub bytes : l .bytes ≡ 8 → ⊥
-  pub map : l .palette ≡ true → l .map + 6 * l .colors ≤ length file
+  pub bytes : l .fields .bytes ≡ 8 → ⊥
+  pub map : l .fields .palette ≡ true → l .fields .map + 6 * l .colors ≤ length file
   pub planes : l .«scratch_len» ≤ length raw
   pub room : l .«output_len» ≤ length old
 
 module _ (l : RasterLayout) (file raw old : List ℕ) where
   abbrev further : List Fault
   further =
-      unsupported (eqb (l .bytes) 8)
-      ∷ truncated (l .palette && ltb (length file) (l .map + 6 * l .colors))
+      unsupported (eqb (l .fields .bytes) 8)
+      ∷ truncated (l .fields .palette && ltb (length file) (l .fields .map + 6 * l .colors))
       ∷ truncated (ltb (length raw) (l .«scratch_len»))
       ∷ outputTooSmall (ltb (length old) (l .«output_len»))
       ∷ []
 
-  mapped : (l .palette && ltb (length file) (l .map + 6 * l .colors)) ≡ false → l .palette ≡ true → l .map + 6 * l .colors ≤ length file
-  mapped e t = ltb-false (length file) (l .map + 6 * l .colors) (rw t at e)
+  mapped : (l .fields .palette && ltb (length file) (l .fields .map + 6 * l .colors)) ≡ false → l .fields .palette ≡ true → l .fields .map + 6 * l .colors ≤ length file
+  mapped e t = ltb-false (length file) (l .fields .map + 6 * l .colors) (rw t at e)
 
-  map-fits : (l .palette ≡ true → l .map + 6 * l .colors ≤ length file) → (l .palette && ltb (length file) (l .map + 6 * l .colors)) ≡ false
-  map-fits h = by (l .palette) refl
+  map-fits : (l .fields .palette ≡ true → l .fields .map + 6 * l .colors ≤ length file) → (l .fields .palette && ltb (length file) (l .fields .map + 6 * l .colors)) ≡ false
+  map-fits h = by (l .fields .palette) refl
     where
-      by : (b : Bool) → l .palette ≡ b → (b && ltb (length file) (l .map + 6 * l .colors)) ≡ false
-      by true e = le-ltb (length file) (l .map + 6 * l .colors) (h e)
+      by : (b : Bool) → l .fields .palette ≡ b → (b && ltb (length file) (l .fields .map + 6 * l .colors)) ≡ false
+      by true e = le-ltb (length file) (l .fields .map + 6 * l .colors) (h e)
       by false e = refl
 
   premises : Sound (renderFaults l file raw old) → RenderPremises l file raw old
@@ -186,7 +186,7 @@ module _ (l : RasterLayout) (file raw old : List ℕ) where
       record {
         valid = good .0;
         within = good .1;
-        bytes = eqb-false (l .bytes) 8 (sound-here rest);
+        bytes = eqb-false (l .fields .bytes) 8 (sound-here rest);
         map = mapped (sound-here (sound-rest rest));
         planes = ltb-false (length raw) (l .«scratch_len») (sound-here (sound-rest (sound-rest rest)));
         room = ltb-false (length old) (l .«output_len») (sound-here (sound-rest (sound-rest (sound-rest rest))));
@@ -195,7 +195,7 @@ module _ (l : RasterLayout) (file raw old : List ℕ) where
   premises-sound : RenderPremises l file raw old → Sound (renderFaults l file raw old)
   premises-sound r =
       sound-more (valid-record-sound l (r .valid) (r .within))
-      (next (ne-eqb (l .bytes) 8 (r .bytes)) (next (map-fits (r .map)) (next (le-ltb (length raw) (l .«scratch_len») (r .planes)) (next (le-ltb (length old) (l .«output_len») (r .room)) none))))
+      (next (ne-eqb (l .fields .bytes) 8 (r .bytes)) (next (map-fits (r .map)) (next (le-ltb (length raw) (l .«scratch_len») (r .planes)) (next (le-ltb (length old) (l .«output_len») (r .room)) none))))
 
   module _ (answer : Done) (new : List ℕ) (p : Rendered l file raw old answer new) where
     -- upstream's premises are our refusals: ok exactly where they hold, within the limits
@@ -213,21 +213,21 @@ module _ (l : RasterLayout) (file raw old : List ℕ) where
     render-record-refused n checked c e = told (first-more further (refused-first (recordFaults l) tt n (sym c ∙ e)))
 
     module _ (v : Valid l) (t : Within l) where
-      pub render-eight-bytes-refused : l .bytes ≡ 8 → doneOutcome answer ≡ refused 1
-      render-eight-bytes-refused e = told (sound-then (valid-record-sound l v t) (here (eq-eqb (l .bytes) 8 e)))
+      pub render-eight-bytes-refused : l .fields .bytes ≡ 8 → doneOutcome answer ≡ refused 1
+      render-eight-bytes-refused e = told (sound-then (valid-record-sound l v t) (here (eq-eqb (l .fields .bytes) 8 e)))
 
-      pub render-map-refused : (l .bytes ≡ 8 → ⊥) → l .palette ≡ true → length file < l .map + 6 * l .colors → doneOutcome answer ≡ refused 3
+      pub render-map-refused : (l .fields .bytes ≡ 8 → ⊥) → l .fields .palette ≡ true → length file < l .fields .map + 6 * l .colors → doneOutcome answer ≡ refused 3
       render-map-refused b e h =
-          let found : (l .palette && ltb (length file) (l .map + 6 * l .colors)) ≡ true = rw e (lt-ltb (length file) (l .map + 6 * l .colors) h) in
-          told (sound-then (valid-record-sound l v t) (later (ne-eqb (l .bytes) 8 b) (here found)))
+          let found : (l .fields .palette && ltb (length file) (l .fields .map + 6 * l .colors)) ≡ true = rw e (lt-ltb (length file) (l .fields .map + 6 * l .colors) h) in
+          told (sound-then (valid-record-sound l v t) (later (ne-eqb (l .fields .bytes) 8 b) (here found)))
 
-      pub render-planes-refused : (l .bytes ≡ 8 → ⊥) → (l .palette ≡ true → l .map + 6 * l .colors ≤ length file) → length raw < l .«scratch_len» → doneOutcome answer ≡ refused 3
+      pub render-planes-refused : (l .fields .bytes ≡ 8 → ⊥) → (l .fields .palette ≡ true → l .fields .map + 6 * l .colors ≤ length file) → length raw < l .«scratch_len» → doneOutcome answer ≡ refused 3
       render-planes-refused b m h =
-          told (sound-then (valid-record-sound l v t) (later (ne-eqb (l .bytes) 8 b) (later (map-fits m) (here (lt-ltb (length raw) (l .«scratch_len») h)))))
+          told (sound-then (valid-record-sound l v t) (later (ne-eqb (l .fields .bytes) 8 b) (later (map-fits m) (here (lt-ltb (length raw) (l .«scratch_len») h)))))
 
-      pub render-output-refused : (l .bytes ≡ 8 → ⊥) → (l .palette ≡ true → l .map + 6 * l .colors ≤ length file) → l .«scratch_len» ≤ length raw → length old < l .«output_len» → doneOutcome answer ≡ refused 4
+      pub render-output-refused : (l .fields .bytes ≡ 8 → ⊥) → (l .fields .palette ≡ true → l .fields .map + 6 * l .colors ≤ length file) → l .«scratch_len» ≤ length raw → length old < l .«output_len» → doneOutcome answer ≡ refused 4
       render-output-refused b m r h =
-          told (sound-then (valid-record-sound l v t) (later (ne-eqb (l .bytes) 8 b) (later (map-fits m) (later (le-ltb (length raw) (l .«scratch_len») r) (here (lt-ltb (length old) (l .«output_len») h))))))
+          told (sound-then (valid-record-sound l v t) (later (ne-eqb (l .fields .bytes) 8 b) (later (map-fits m) (later (le-ltb (length raw) (l .«scratch_len») r) (here (lt-ltb (length old) (l .«output_len») h))))))
 
     pub render-length-kept : length new ≡ length old
     render-length-kept = length-kept (renderFaults l file raw old) tt (l .«output_len») (Render.converted l file raw) old new p (λ s. premises s .room)

@@ -206,7 +206,7 @@ record-sound-valid l s = record-valid l (finishing (Ours.recordFaults l) tt s)
 pub valid-record-sound : (l : RasterLayout) → LayoutValid l → Within l → Sound (Ours.recordFaults l)
 valid-record-sound l v t =
     let good = valid-accepted l v t in
-    answered-sound (Ours.given l) l (ap done (good .1) ∙ finishing (Ours.layoutFaults (Ours.given l)) (Ours.completed (Ours.given l)) (good .0))
+    answered-sound (Ours.l .fields) l (ap done (good .1) ∙ finishing (Ours.layoutFaults (Ours.l .fields)) (Ours.completed (Ours.l .fields)) (good .0))
 
 pub layout-valid-same : (l : RasterLayout) → Exactly (Sound (Ours.recordFaults l)) (LayoutValid l × Within l)
 layout-valid-same l = (record-sound-valid l, λ v. valid-record-sound l (v .0) (v .1))
@@ -220,7 +220,7 @@ pub source-index-same : (l : RasterLayout) (k : ℕ) → Layout.sourceIndex l k 
 unfolding Layout.sourceIndex Ours.packedIndex Ours.plainIndex Ours.highFirst
 source-index-same l k = refl
 
-pub palette-index-same : (l : RasterLayout) (k byte : ℕ) → Layout.paletteIndex l k byte ≡ Render.paletteIndex l (k / 3 % l .w) byte
+pub palette-index-same : (l : RasterLayout) (k byte : ℕ) → Layout.paletteIndex l k byte ≡ Render.paletteIndex l (k / 3 % l .fields .w) byte
 unfolding Layout.paletteIndex
 palette-index-same l k byte = refl
 
@@ -253,7 +253,7 @@ place-fits bytes k some = omega (arith, mod-lt k some)
 pub pair-fits : (c : ℕ) → (c % 2 ≤ c) × (c % 2 ≤ c - c % 2 + 1)
 pair-fits c = (omega arith, omega arith)
 
-pub slot-fits : (l : RasterLayout) (x : ℕ) → (l .slots ≡ 8 → x % l .slots ≤ 7) × (l .slots ≡ 2 → x % l .slots ≤ 1)
+pub slot-fits : (l : RasterLayout) (x : ℕ) → (l .fields .slots ≡ 8 → x % l .fields .slots ≤ 7) × (l .fields .slots ≡ 2 → x % l .fields .slots ≤ 1)
 slot-fits l x = (λ e. rw e (omega arith), λ e. rw e (omega arith))
 
 pub pixel-fits : (ch k : ℕ) → 0 < ch → (k % ch ≤ k) × (1 ≤ k - k % ch + ch)

@@ -11,21 +11,21 @@ use Rattle.upstream.specs.Native.{word16}
 
 unfoldable pub sourceIndex : RasterLayout → ℕ → ℕ
 sourceIndex l k =
-    pick (l .palette || eqb (l .slots) 8)
-    (let p = k / l .ch in p / l .w * l .«encoded_width» + p % l .w / l .slots)
-    (let stride = l .ch * l .bytes in
+    pick (l .fields .palette || eqb (l .fields .slots) 8)
+    (let p = k / l .fields .ch in p / l .fields .w * l .«encoded_width» + p % l .fields .w / l .fields .slots)
+    (let stride = l .fields .ch * l .fields .bytes in
     let p = k / stride in
     let c = k % stride in
-    let sc = pick (eqb (l .bytes) 2 && l .le) (c - c % 2 + 1 - c % 2) c in
-    pick (l .separate) (sc / l .bytes * l .«plane_len» + p * l .bytes + sc % l .bytes) (p * stride + sc))
+    let sc = pick (eqb (l .fields .bytes) 2 && l .fields .le) (c - c % 2 + 1 - c % 2) c in
+    pick (l .fields .separate) (sc / l .fields .bytes * l .«plane_len» + p * l .fields .bytes + sc % l .fields .bytes) (p * stride + sc))
 
 abbrev pub power2 : ℕ → ℕ
 power2 n = 2 ^ n
 
 unfoldable pub paletteIndex : RasterLayout → ℕ → ℕ → ℕ
 paletteIndex l k byte =
-    let slot = k / 3 % l .w % l .slots in
-    let shift = pick (eqb (l .slots) 8) (7 - slot) (pick (eqb (l .slots) 2) ((1 - slot) * 4) 0) in
+    let slot = k / 3 % l .fields .w % l .fields .slots in
+    let shift = pick (eqb (l .fields .slots) 8) (7 - slot) (pick (eqb (l .fields .slots) 2) ((1 - slot) * 4) 0) in
     byte / power2 shift % l .colors
 
 -- document 01's rule: u is v, or 255 - v with white; multiplied, 0 beside alpha 0, else 255 × u / a, held at 255
@@ -43,7 +43,7 @@ unequal false false = false
 unfoldable pub converted : RasterLayout → List ℕ → List ℕ → ℕ → ℕ
 converted l s raw k =
     let v = getD raw (sourceIndex l k) 0 in
-    pick (l .palette) (word16 s (l .map + 2 * (k % 3 * l .colors + paletteIndex l k v)) (l .le) / 256)
-    (pick (eqb (l .slots) 8) (let bit = v / power2 (7 - k % l .w % 8) % 2 in pick (unequal (eqb bit 0) (l .white)) 0 255)
-    (pick (not (eqb (l .alpha) 0) && not (eqb (k % l .ch) (l .ch - 1))) (straightColor v (getD raw (sourceIndex l (k - k % l .ch + l .ch - 1)) 0) (eqb (l .alpha) 1) (l .white))
-    (pick (l .white && eqb (l .alpha) 0) (255 - v) v)))
+    pick (l .fields .palette) (word16 s (l .fields .map + 2 * (k % 3 * l .colors + paletteIndex l k v)) (l .fields .le) / 256)
+    (pick (eqb (l .fields .slots) 8) (let bit = v / power2 (7 - k % l .fields .w % 8) % 2 in pick (unequal (eqb bit 0) (l .fields .white)) 0 255)
+    (pick (not (eqb (l .fields .alpha) 0) && not (eqb (k % l .fields .ch) (l .fields .ch - 1))) (straightColor v (getD raw (sourceIndex l (k - k % l .fields .ch + l .fields .ch - 1)) 0) (eqb (l .fields .alpha) 1) (l .fields .white))
+    (pick (l .fields .white && eqb (l .fields .alpha) 0) (255 - v) v)))

@@ -25,20 +25,20 @@ use Rattle.writing.specs.Parts.{RowFlipped, PlainFits, PlainRow}
 
 -- white, with no alpha, beside alpha, and none
 module _ (l : RasterLayout) (old : List ℕ) where
-  pub over-none : l .white ≡ false → RowFlipped l old old
+  pub over-none : l .fields .white ≡ false → RowFlipped l old old
   over-none e = rw e (sym (table-self old))
 
-  pub over-all : l .white ≡ true → l .alpha ≡ 0 → (new : List ℕ) → Inverted old new → RowFlipped l old new
-  over-all e z new p = rw (e, eq-eqb (l .alpha) 0 z) p
+  pub over-all : l .fields .white ≡ true → l .fields .alpha ≡ 0 → (new : List ℕ) → Inverted old new → RowFlipped l old new
+  over-all e z new p = rw (e, eq-eqb (l .fields .alpha) 0 z) p
 
-  pub over-colours : l .white ≡ true → (l .alpha ≡ 0 → ⊥) → WholePixels old (l .ch) → (answer : Done) (new : List ℕ) → Straightened old (l .ch) false true answer new → RowFlipped l old new
+  pub over-colours : l .fields .white ≡ true → (l .fields .alpha ≡ 0 → ⊥) → WholePixels old (l .fields .ch) → (answer : Done) (new : List ℕ) → Straightened old (l .fields .ch) false true answer new → RowFlipped l old new
   over-colours e z whole answer new p =
-      finished (straightFaults old (l .ch)) tt (length old) (straightAt old (l .ch) false true) old new sound p
-      ∙ filled-all (length old) (straightAt old (l .ch) false true) old (omega arith)
-      ∙ table-same (length old) _ _ (λ j h. rw (e, ne-eqb (l .alpha) 0 z) (by j (eqb (j % l .ch) (l .ch - 1))))
+      finished (straightFaults old (l .fields .ch)) tt (length old) (straightAt old (l .fields .ch) false true) old new sound p
+      ∙ filled-all (length old) (straightAt old (l .fields .ch) false true) old (omega arith)
+      ∙ table-same (length old) _ _ (λ j h. rw (e, ne-eqb (l .fields .alpha) 0 z) (by j (eqb (j % l .fields .ch) (l .fields .ch - 1))))
     where
-      sound : Sound (straightFaults old (l .ch))
-      sound = next (ne-eqb (l .ch) 0 (λ n. omega (arith, whole .some))) (next (ap not (eq-eqb _ _ (whole .whole))) none)
+      sound : Sound (straightFaults old (l .fields .ch))
+      sound = next (ne-eqb (l .fields .ch) 0 (λ n. omega (arith, whole .some))) (next (ap not (eq-eqb _ _ (whole .whole))) none)
 
       by : (j : ℕ) (last : Bool) → pick last (getD old j 0) (255 - getD old j 0) ≡ flipped (not last) (getD old j 0)
       by j true = refl
@@ -46,28 +46,28 @@ module _ (l : RasterLayout) (old : List ℕ) where
 
 -- such a row
 module _ {l : RasterLayout} {row old : List ℕ} (fits : PlainFits l row old) (b : Bytes row) where
-  faultless : Sound (reorderFaults row (l .bytes) old)
+  faultless : Sound (reorderFaults row (l .fields .bytes) old)
   faultless =
       next (ap not (narrow-served (fits .width))) (next (ap not (eq-eqb _ _ (fits .words))) (next (le-ltb (length old) (length row) (omega (arith, fits .room))) none))
 
-  module _ (answer : Done) (mid : List ℕ) (p : Reordered row (l .bytes) false (l .le) old answer mid) where
-    ordered : mid ≡ table (length row) (storedAt (l .bytes) (l .le) (wordOf (l .bytes) false row))
+  module _ (answer : Done) (mid : List ℕ) (p : Reordered row (l .fields .bytes) false (l .fields .le) old answer mid) where
+    ordered : mid ≡ table (length row) (storedAt (l .fields .bytes) (l .fields .le) (wordOf (l .fields .bytes) false row))
     ordered =
-        finished (reorderFaults row (l .bytes) old) tt (length row) _ old mid faultless p
+        finished (reorderFaults row (l .fields .bytes) old) tt (length row) _ old mid faultless p
         ∙ filled-all (length row) _ old (omega (arith, fits .room))
 
     ordered-length : length mid ≡ length row
     ordered-length = ap length ordered ∙ length-table (length row) _
 
-    pub ordered-whole : WholePixels mid (l .ch)
-    ordered-whole = record { some = fits .some; whole = ap (λ (n : ℕ). n % l .ch) ordered-length ∙ fits .pixels }
+    pub ordered-whole : WholePixels mid (l .fields .ch)
+    ordered-whole = record { some = fits .some; whole = ap (λ (n : ℕ). n % l .fields .ch) ordered-length ∙ fits .pixels }
 
-    ordered-at : (k : ℕ) → k < length row → getD mid k 0 ≡ getD row (highFirst (l .bytes) (l .le) k) 0
+    ordered-at : (k : ℕ) → k < length row → getD mid k 0 ≡ getD row (highFirst (l .fields .bytes) (l .fields .le) k) 0
     ordered-at k h =
-        ap (λ (m : List ℕ). getD m k 0) ordered ∙ table-at (length row) _ k h ∙ stored-high-first row b (fits .width) false (l .le) k
+        ap (λ (m : List ℕ). getD m k 0) ordered ∙ table-at (length row) _ k h ∙ stored-high-first row b (fits .width) false (l .fields .le) k
 
     pub plain-done : (new : List ℕ) → RowFlipped l mid new → PlainRow l row old new
     plain-done new q =
         q
-        ∙ ap (λ (n : ℕ). table n (λ j. flipped (flipsChannel l (j % l .ch)) (getD mid j 0))) (ordered-length ∙ sym (fits .room))
-        ∙ table-same (length old) _ _ (λ j h. ap (flipped (flipsChannel l (j % l .ch))) (ordered-at j (omega (arith, fits .room))))
+        ∙ ap (λ (n : ℕ). table n (λ j. flipped (flipsChannel l (j % l .fields .ch)) (getD mid j 0))) (ordered-length ∙ sym (fits .room))
+        ∙ table-same (length old) _ _ (λ j h. ap (flipped (flipsChannel l (j % l .fields .ch))) (ordered-at j (omega (arith, fits .room))))

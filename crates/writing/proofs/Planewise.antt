@@ -12,7 +12,7 @@ use Rattle.answer.specs.Outcome.{Sound}
 use Rattle.answer.specs.Table.{table, filled}
 use Rattle.answer.proofs.Filling.{table-at, table-same, length-table, part, length-part, part-filled, length-filled}
 use Rattle.layout.specs.declared.RasterLayout.{RasterLayout}
-use Rattle.layout.specs.Layout.{given, byteLimit, recordFaults, packed, highFirst}
+use Rattle.layout.specs.Layout.{byteLimit, recordFaults, packed, highFirst}
 use Rattle.layout.proofs.Says.{clash, refuted, up, down, both}
 use Rattle.layout.proofs.Accepted.{up-to-eight, alpha-bytes, mapped-together}
 use Rattle.layout.proofs.Whole.{record-accepted}
@@ -26,51 +26,51 @@ use Rattle.pixels.proofs.Undo.{not-picked}
 use Rattle.writing.specs.Parts.{planar, channelAt, ChannelFits, ChannelInto, PlaneOf, PlaneWritten, Apart, WrittenInto}
 use Rattle.pixels.proofs.HighFirst.{one-or-two, high-first-in}
 
-module _ (l : RasterLayout) (s : Sound (recordFaults l)) (narrow : eqb (l .bytes) 8 ≡ false) (xor : planar l ≡ true) where
-  separated : (l .separate ≡ true) × (eqb (l .slots) 8 ≡ false)
-  separated = both (up (l .separate)) (down (eqb (l .slots) 8)) .tells xor
+module _ (l : RasterLayout) (s : Sound (recordFaults l)) (narrow : eqb (l .fields .bytes) 8 ≡ false) (xor : planar l ≡ true) where
+  separated : (l .fields .separate ≡ true) × (eqb (l .fields .slots) 8 ≡ false)
+  separated = both (up (l .fields .separate)) (down (eqb (l .fields .slots) 8)) .tells xor
 
   plain : packed l ≡ false
   plain =
-      let bare : l .palette ≡ false = sym (refuted (up (l .palette)) (λ p. clash (separated .0) (mapped-together (record-accepted l s) p))) in
+      let bare : l .fields .palette ≡ false = sym (refuted (up (l .fields .palette)) (λ p. clash (separated .0) (mapped-together (record-accepted l s) p))) in
       rw (bare, separated .1)
 
-  bytes-some : 0 < l .bytes
+  bytes-some : 0 < l .fields .bytes
   bytes-some = up-to-eight (record-accepted l s .bytes) .0
 
-  plane : l .«plane_len» ≡ l .w * l .h * l .bytes
+  plane : l .«plane_len» ≡ l .fields .w * l .fields .h * l .fields .bytes
   plane = plane-is l s plain (separated .0) .0
 
   -- a plane has its channel of each pixel
-  plane-pixels : (l .«plane_len» % l .bytes ≡ 0) × (l .«plane_len» / l .bytes ≡ l .w * l .h)
+  plane-pixels : (l .«plane_len» % l .fields .bytes ≡ 0) × (l .«plane_len» / l .fields .bytes ≡ l .fields .w * l .fields .h)
   plane-pixels =
-      (ap (λ (n : ℕ). n % l .bytes) plane ∙ mul-mod-left (l .w * l .h) (l .bytes), ap (λ (n : ℕ). n / l .bytes) plane ∙ rw add-zero at (group-of (l .w * l .h) (l .bytes) {b = 0} bytes-some))
+      (ap (λ (n : ℕ). n % l .fields .bytes) plane ∙ mul-mod-left (l .fields .w * l .fields .h) (l .fields .bytes), ap (λ (n : ℕ). n / l .fields .bytes) plane ∙ rw add-zero at (group-of (l .fields .w * l .fields .h) (l .fields .bytes) {b = 0} bytes-some))
 
-  module _ (picture : List ℕ) (c : ℕ) (channel : c < l .ch) where
-    place-of : (j : ℕ) → j < l .«plane_len» → placeIndex l (c * l .«plane_len» + j) ≡ c * l .bytes + j / l .bytes * (l .ch * l .bytes) + highFirst (l .bytes) (l .le) (j % l .bytes)
+  module _ (picture : List ℕ) (c : ℕ) (channel : c < l .fields .ch) where
+    place-of : (j : ℕ) → j < l .«plane_len» → placeIndex l (c * l .«plane_len» + j) ≡ c * l .fields .bytes + j / l .fields .bytes * (l .fields .ch * l .fields .bytes) + highFirst (l .fields .bytes) (l .fields .le) (j % l .fields .bytes)
     place-of j h =
-        let p = j / l .bytes in
-        let b = j % l .bytes in
-        let byte : b < l .bytes = mod-lt j bytes-some in
-        let pixel : p < l .w * l .h = div-lt-iff-lt-mul bytes-some .1 (omega (arith, plane)) in
-        ap (λ (n : ℕ). placeIndex l (c * l .«plane_len» + n)) (sym (div-add-mod' j (l .bytes)))
+        let p = j / l .fields .bytes in
+        let b = j % l .fields .bytes in
+        let byte : b < l .fields .bytes = mod-lt j bytes-some in
+        let pixel : p < l .fields .w * l .fields .h = div-lt-iff-lt-mul bytes-some .1 (omega (arith, plane)) in
+        ap (λ (n : ℕ). placeIndex l (c * l .«plane_len» + n)) (sym (div-add-mod' j (l .fields .bytes)))
         ∙ apart-place l s plain (separated .0) p c b pixel channel byte
-        ∙ ap (λ (n : ℕ). p * (l .ch * l .bytes) + n) (high-first-in (l .bytes) (one-or-two l s narrow) (l .le) c b)
+        ∙ ap (λ (n : ℕ). p * (l .fields .ch * l .fields .bytes) + n) (high-first-in (l .fields .bytes) (one-or-two l s narrow) (l .fields .le) c b)
         ∙ omega arith
 
     -- white turns over all of a plane or none of it
     over-plane : (j : ℕ) → j < l .«plane_len» → flips l (placeIndex l (c * l .«plane_len» + j)) ≡ flipsChannel l c
     unfolding highFirst
-    over-plane j h = by (eqb (l .alpha) 0) refl
+    over-plane j h = by (eqb (l .fields .alpha) 0) refl
       where
-        by : (b : Bool) → eqb (l .alpha) 0 ≡ b → (l .white && (b || not (eqb (placeIndex l (c * l .«plane_len» + j) % l .ch) (l .ch - 1)))) ≡ (l .white && (b || not (eqb c (l .ch - 1))))
+        by : (b : Bool) → eqb (l .fields .alpha) 0 ≡ b → (l .fields .white && (b || not (eqb (placeIndex l (c * l .«plane_len» + j) % l .fields .ch) (l .fields .ch - 1)))) ≡ (l .fields .white && (b || not (eqb c (l .fields .ch - 1))))
         by true e = refl
         by false e =
-            let one : l .bytes ≡ 1 = alpha-bytes (record-accepted l s) (eqb-false (l .alpha) 0 e) in
-            let here : placeIndex l (c * l .«plane_len» + j) ≡ j * l .ch + c = place-of j h ∙ rw one (rw (mul-one (l .ch), div-one j) (omega arith)) in
-            rw (here, item-of j (l .ch) channel)
+            let one : l .fields .bytes ≡ 1 = alpha-bytes (record-accepted l s) (eqb-false (l .fields .alpha) 0 e) in
+            let here : placeIndex l (c * l .«plane_len» + j) ≡ j * l .fields .ch + c = place-of j h ∙ rw one (rw (mul-one (l .fields .ch), div-one j) (omega arith)) in
+            rw (here, item-of j (l .fields .ch) channel)
 
-    plane-byte : (j : ℕ) → j < l .«plane_len» → written l picture (c * l .«plane_len» + j) ≡ flipped (flipsChannel l c) (channelAt picture (c * l .bytes) (l .ch * l .bytes) (l .bytes) (l .le) j)
+    plane-byte : (j : ℕ) → j < l .«plane_len» → written l picture (c * l .«plane_len» + j) ≡ flipped (flipsChannel l c) (channelAt picture (c * l .fields .bytes) (l .fields .ch * l .fields .bytes) (l .fields .bytes) (l .fields .le) j)
     unfolding written
     plane-byte j h =
         not-picked _ _ (separated .1)
@@ -78,23 +78,23 @@ module _ (l : RasterLayout) (s : Sound (recordFaults l)) (narrow : eqb (l .bytes
         ∙ ap (λ (k : ℕ). flipped (flipsChannel l c) (getD picture k 0)) (place-of j h)
 
     module _ (all : l .«output_len» ≤ length picture) (old : List ℕ) (room : length old ≡ l .«plane_len») where
-      pub channel-fits : ChannelFits picture (c * l .bytes) (l .ch * l .bytes) (l .bytes) old
+      pub channel-fits : ChannelFits picture (c * l .fields .bytes) (l .fields .ch * l .fields .bytes) (l .fields .bytes) old
       channel-fits =
-          let rows : (c + 1) * l .bytes ≤ l .ch * l .bytes = mul-le-mul-right (l .bytes) (omega arith) in
+          let rows : (c + 1) * l .fields .bytes ≤ l .fields .ch * l .fields .bytes = mul-le-mul-right (l .fields .bytes) (omega arith) in
           record {
-            inside = omega (arith, add-mul c 1 (l .bytes), one-mul (l .bytes));
+            inside = omega (arith, add-mul c 1 (l .fields .bytes), one-mul (l .fields .bytes));
             words = rw room (plane-pixels .0);
             pixels = rw (room, plane-pixels .1) (omega (arith, output-is l s));
-            limited = bytes-few (given l) (record-accepted l s);
+            limited = bytes-few (l .fields) (record-accepted l s);
           }
 
-      module _ (mid : List ℕ) (p : ChannelInto picture (c * l .bytes) (l .ch * l .bytes) (l .bytes) (l .le) old mid) where
+      module _ (mid : List ℕ) (p : ChannelInto picture (c * l .fields .bytes) (l .fields .ch * l .fields .bytes) (l .fields .bytes) (l .fields .le) old mid) where
         pub plane-kept : flipsChannel l c ≡ false → PlaneWritten l picture c old mid
         plane-kept e = p ∙ table-same (length old) _ _ (λ j h. sym (plane-byte j (omega arith) ∙ rw e))
 
         pub plane-over : flipsChannel l c ≡ true → (new : List ℕ) → Inverted mid new → PlaneWritten l picture c old new
         plane-over e new q =
-            let f = channelAt picture (c * l .bytes) (l .ch * l .bytes) (l .bytes) (l .le) in
+            let f = channelAt picture (c * l .fields .bytes) (l .fields .ch * l .fields .bytes) (l .fields .bytes) (l .fields .le) in
             let long : length mid ≡ length old = ap length p ∙ length-table (length old) f in
             q
             ∙ ap (λ (n : ℕ). table n (λ k. 255 - getD mid k 0)) long
@@ -103,7 +103,7 @@ module _ (l : RasterLayout) (s : Sound (recordFaults l)) (narrow : eqb (l .bytes
 -- the loop over the planes
 pub record Planewise (l : RasterLayout) (picture old : List ℕ) (start c : ℕ) (out : List ℕ) : Type 0 where
   pub start-is : start ≡ c * l .«plane_len»
-  pub inside : c ≤ l .ch
+  pub inside : c ≤ l .fields .ch
   pub same : length out ≡ length old
   pub so-far : out ≡ filled start (written l picture) old
 
@@ -111,17 +111,17 @@ pub planes-none : (l : RasterLayout) (picture old : List ℕ) → Planewise l pi
 planes-none l picture old = record { start-is = sym (zero-mul (l .«plane_len»)); inside = omega arith; same = refl; so-far = refl }
 
 module _ {l : RasterLayout} {picture old : List ℕ} {start c : ℕ} {out : List ℕ} (fits : Apart l picture old) (is : Planewise l picture old start c out) where
-  scratch : l .«scratch_len» ≡ l .ch * l .«plane_len»
+  scratch : l .«scratch_len» ≡ l .fields .ch * l .«plane_len»
   scratch = plane-is l (fits .served .sound) (plain l (fits .served .sound) (fits .served .narrow) (fits .apart)) (separated l (fits .served .sound) (fits .served .narrow) (fits .apart) .0) .1
 
-  module _ (more : c < l .ch) where
+  module _ (more : c < l .fields .ch) where
     pub plane-room : (start + l .«plane_len» ≤ length old) × (start + l .«plane_len» ≤ byteLimit)
     plane-room =
-        let upto : (c + 1) * l .«plane_len» ≤ l .ch * l .«plane_len» = mul-le-mul-right (l .«plane_len») (omega arith) in
+        let upto : (c + 1) * l .«plane_len» ≤ l .fields .ch * l .«plane_len» = mul-le-mul-right (l .«plane_len») (omega arith) in
         let end : start + l .«plane_len» ≤ l .«scratch_len» = omega (arith, is .start-is, add-mul c 1 (l .«plane_len»), one-mul (l .«plane_len»), scratch) in
         (omega (arith, fits .served .room), omega (arith, scratch-limited l (fits .served .sound)))
 
-    pub plane-fits : (k : ℕ) → k < l .ch → PlaneOf l picture k (part start (start + l .«plane_len») out)
+    pub plane-fits : (k : ℕ) → k < l .fields .ch → PlaneOf l picture k (part start (start + l .«plane_len») out)
     plane-fits k channel =
         record {
           sound = fits .served .sound;
@@ -144,8 +144,8 @@ module _ {l : RasterLayout} {picture old : List ℕ} {start c : ℕ} {out : List
           so-far = now;
         }
 
-  pub planes-ended : l .ch ≤ c → WrittenInto l picture old out
+  pub planes-ended : l .fields .ch ≤ c → WrittenInto l picture old out
   planes-ended end =
-      let all : c ≡ l .ch = omega (arith, is .inside) in
+      let all : c ≡ l .fields .ch = omega (arith, is .inside) in
       let whole : start ≡ l .«scratch_len» = is .start-is ∙ ap (λ (n : ℕ). n * l .«plane_len») all ∙ sym scratch in
       rw whole at (is .so-far)

@@ -16,7 +16,7 @@ use Rattle.answer.proofs.Promised.{finished}
 use Rattle.answer.proofs.Filling.{table-same, part, part-at, length-part, part-filled, length-filled, filled-all}
 use Rattle.words.proofs.Digits.{value-same}
 use Rattle.layout.specs.declared.RasterLayout.{RasterLayout}
-use Rattle.layout.specs.Layout.{given, sideLimit, byteLimit, encodedWidth, planeChannels, recordFaults, packed, highFirst}
+use Rattle.layout.specs.Layout.{sideLimit, byteLimit, encodedWidth, planeChannels, recordFaults, packed, highFirst}
 use Rattle.layout.proofs.Says.{clash, refuted, up, down, both}
 use Rattle.layout.proofs.Accepted.{bilevel, alpha-bytes}
 use Rattle.layout.proofs.Whole.{record-accepted, record-agreed}
@@ -32,148 +32,148 @@ use Rattle.writing.specs.Parts.{planar, PlainFits, PlainRow, RowOf, rowA
 use Rattle.pixels.proofs.HighFirst.{one-or-two, high-first-in, high-first-below}
 
 -- a row has whole words and whole pixels
-row-words : (l : RasterLayout) → rowBytes l % l .bytes ≡ 0
-row-words l = rw (← mul-assoc (l .w) (l .ch) (l .bytes)) (mul-mod-left (l .w * l .ch) (l .bytes))
+row-words : (l : RasterLayout) → rowBytes l % l .fields .bytes ≡ 0
+row-words l = rw (← mul-assoc (l .fields .w) (l .fields .ch) (l .fields .bytes)) (mul-mod-left (l .fields .w * l .fields .ch) (l .fields .bytes))
 
-row-pixels : (l : RasterLayout) → rowBytes l % l .ch ≡ 0
-row-pixels l = rw (mul-comm (l .ch) (l .bytes), ← mul-assoc (l .w) (l .bytes) (l .ch)) (mul-mod-left (l .w * l .bytes) (l .ch))
+row-pixels : (l : RasterLayout) → rowBytes l % l .fields .ch ≡ 0
+row-pixels l = rw (mul-comm (l .fields .ch) (l .fields .bytes), ← mul-assoc (l .fields .w) (l .fields .bytes) (l .fields .ch)) (mul-mod-left (l .fields .w * l .fields .bytes) (l .fields .ch))
 
-module _ (l : RasterLayout) (s : Sound (recordFaults l)) (bare : l .palette ≡ false) (together : planar l ≡ false) where
+module _ (l : RasterLayout) (s : Sound (recordFaults l)) (bare : l .fields .palette ≡ false) (together : planar l ≡ false) where
   -- a byte holds eight samples, or all channels stand together
-  shape : (l .slots ≡ 8) ⊎ ((packed l ≡ false) × (l .separate ≡ false))
-  shape = by (eqb (l .slots) 8) refl
+  shape : (l .fields .slots ≡ 8) ⊎ ((packed l ≡ false) × (l .fields .separate ≡ false))
+  shape = by (eqb (l .fields .slots) 8) refl
     where
-      by : (b : Bool) → eqb (l .slots) 8 ≡ b → (l .slots ≡ 8) ⊎ ((packed l ≡ false) × (l .separate ≡ false))
-      by true e = inl (eqb-true (l .slots) 8 e)
+      by : (b : Bool) → eqb (l .fields .slots) 8 ≡ b → (l .fields .slots ≡ 8) ⊎ ((packed l ≡ false) × (l .fields .separate ≡ false))
+      by true e = inl (eqb-true (l .fields .slots) 8 e)
       by false e =
-          inr (rw (bare, e), sym (refuted (up (l .separate)) (λ t. clash (both (up (l .separate)) (down (eqb (l .slots) 8)) .told (t, e)) together)))
+          inr (rw (bare, e), sym (refuted (up (l .fields .separate)) (λ t. clash (both (up (l .fields .separate)) (down (eqb (l .fields .slots) 8)) .told (t, e)) together)))
 
   -- a pixel has as many bytes in the planes as in the picture, or eight have one
-  place-wide : l .«plane_channels» ≡ l .ch * l .bytes
+  place-wide : l .«plane_channels» ≡ l .fields .ch * l .fields .bytes
   unfolding planeChannels
-  place-wide = record-agreed l s .0 .0 .0 .0 .0 .1 ∙ by shape (l .separate) refl
+  place-wide = record-agreed l s .plane-channels ∙ by shape (l .fields .separate) refl
     where
-      by : (l .slots ≡ 8) ⊎ ((packed l ≡ false) × (l .separate ≡ false)) → (t : Bool) → l .separate ≡ t → planeChannels (given l) ≡ l .ch * l .bytes
+      by : (l .fields .slots ≡ 8) ⊎ ((packed l ≡ false) × (l .fields .separate ≡ false)) → (t : Bool) → l .fields .separate ≡ t → planeChannels (l .fields) ≡ l .fields .ch * l .fields .bytes
       by (inl e) true t = let one = bilevel (record-accepted l s) bare e .0 in rw (bare, t, one .0, one .1)
       by (inl e) false t = rw (bare, t)
       by (inr q) true t = clash t (q .1)
       by (inr q) false t = rw (bare, t)
 
   -- bytes of a bilevel row
-  module _ (eight : l .slots ≡ 8) where
-    one : ((l .ch ≡ 1) × (l .bytes ≡ 1)) × (l .alpha ≡ 0)
+  module _ (eight : l .fields .slots ≡ 8) where
+    one : ((l .fields .ch ≡ 1) × (l .fields .bytes ≡ 1)) × (l .fields .alpha ≡ 0)
     one = bilevel (record-accepted l s) bare eight
 
-    bilevel-row : (rowBytes l ≡ l .w) × (planeRow l ≡ l .«encoded_width»)
-    bilevel-row = (rw (one .0 .0, one .0 .1) (mul-one (l .w)), rw (place-wide, one .0 .0, one .0 .1) (mul-one (l .«encoded_width»)))
+    bilevel-row : (rowBytes l ≡ l .fields .w) × (planeRow l ≡ l .«encoded_width»)
+    bilevel-row = (rw (one .0 .0, one .0 .1) (mul-one (l .fields .w)), rw (place-wide, one .0 .0, one .0 .1) (mul-one (l .«encoded_width»)))
 
-    bilevel-eighths : l .«encoded_width» ≡ eighths (l .w)
+    bilevel-eighths : l .«encoded_width» ≡ eighths (l .fields .w)
     unfolding encodedWidth
-    bilevel-eighths = rw eight at (record-agreed l s .0 .0 .0 .0 .0 .0) ∙ omega (arith, record-accepted l s .wide)
+    bilevel-eighths = rw eight at (record-agreed l s .encoded-width) ∙ omega (arith, record-accepted l s .wide)
 
   plain-row-same : packed l ≡ false → planeRow l ≡ rowBytes l
   plain-row-same plain = rw (place-wide, row-is l s plain)
 
   -- the length by rows
-  scratch-rows : l .«scratch_len» ≡ l .h * planeRow l
+  scratch-rows : l .«scratch_len» ≡ l .fields .h * planeRow l
   scratch-rows = by shape
     where
-      by : (l .slots ≡ 8) ⊎ ((packed l ≡ false) × (l .separate ≡ false)) → l .«scratch_len» ≡ l .h * planeRow l
-      by (inl e) = bilevel-scratch l s bare e ∙ ap (λ (n : ℕ). l .h * n) (sym (bilevel-row e .1))
+      by : (l .fields .slots ≡ 8) ⊎ ((packed l ≡ false) × (l .fields .separate ≡ false)) → l .«scratch_len» ≡ l .fields .h * planeRow l
+      by (inl e) = bilevel-scratch l s bare e ∙ ap (λ (n : ℕ). l .fields .h * n) (sym (bilevel-row e .1))
       by (inr q) =
           together-is l s (q .0) (q .1)
-          ∙ ap (λ (n : ℕ). n * (l .ch * l .bytes)) (mul-comm (l .w) (l .h))
-          ∙ mul-assoc (l .h) (l .w) (l .ch * l .bytes)
-          ∙ ap (λ (n : ℕ). l .h * n) (sym (plain-row-same (q .0)))
+          ∙ ap (λ (n : ℕ). n * (l .fields .ch * l .fields .bytes)) (mul-comm (l .fields .w) (l .fields .h))
+          ∙ mul-assoc (l .fields .h) (l .fields .w) (l .fields .ch * l .fields .bytes)
+          ∙ ap (λ (n : ℕ). l .fields .h * n) (sym (plain-row-same (q .0)))
 
   -- and none of these products wraps
-  pub rows-few : ((l .ch * l .bytes ≤ 32) × (rowBytes l ≤ sideLimit * 32)) × (planeRow l ≤ sideLimit * 32)
+  pub rows-few : ((l .fields .ch * l .fields .bytes ≤ 32) × (rowBytes l ≤ sideLimit * 32)) × (planeRow l ≤ sideLimit * 32)
   rows-few =
       let shown = record-accepted l s in
-      let few : l .ch * l .bytes ≤ 32 = bytes-few (given l) shown in
-      let encoded : l .«encoded_width» ≤ sideLimit = omega (arith, encoded-side (given l) shown, record-agreed l s .0 .0 .0 .0 .0 .0) in
+      let few : l .fields .ch * l .fields .bytes ≤ 32 = bytes-few (l .fields) shown in
+      let encoded : l .«encoded_width» ≤ sideLimit = omega (arith, encoded-side (l .fields) shown, record-agreed l s .encoded-width) in
       ((few, mul-le-mul (shown .width) few), rw place-wide (mul-le-mul encoded few))
 
   -- a bilevel row: each byte has eight columns
-  module _ (eight : l .slots ≡ 8) (picture : List ℕ) (y : ℕ) (inside : y * rowBytes l + rowBytes l ≤ length picture) (j : ℕ) (h : j < planeRow l) where
-    packed-byte : packedAt (l .white) (part (y * rowBytes l) (y * rowBytes l + rowBytes l) picture) j ≡ written l picture (y * planeRow l + j)
+  module _ (eight : l .fields .slots ≡ 8) (picture : List ℕ) (y : ℕ) (inside : y * rowBytes l + rowBytes l ≤ length picture) (j : ℕ) (h : j < planeRow l) where
+    packed-byte : packedAt (l .fields .white) (part (y * rowBytes l) (y * rowBytes l + rowBytes l) picture) j ≡ written l picture (y * planeRow l + j)
     unfolding packedAt bilevelPlane written
-    packed-byte = value-same 2 8 _ _ (λ p q. each p) ∙ sym (picked _ _ (eq-eqb (l .slots) 8 eight))
+    packed-byte = value-same 2 8 _ _ (λ p q. each p) ∙ sym (picked _ _ (eq-eqb (l .fields .slots) 8 eight))
       where
         row : List ℕ
         row = part (y * rowBytes l) (y * rowBytes l + rowBytes l) picture
 
-        wide : rowBytes l ≡ l .w
+        wide : rowBytes l ≡ l .fields .w
         wide = bilevel-row eight .0
 
-        long : length row ≡ l .w
+        long : length row ≡ l .fields .w
         long = length-part (y * rowBytes l) (y * rowBytes l + rowBytes l) picture (omega arith) inside ∙ omega (arith, wide)
 
-        by : (x : ℕ) (b : Bool) → ltb x (l .w) ≡ b → pick b (bilevelBit (l .white) (getD row x 0)) 0 ≡ pick b (bilevelBit (l .white) (getD picture (y * l .w + x) 0)) 0
+        by : (x : ℕ) (b : Bool) → ltb x (l .fields .w) ≡ b → pick b (bilevelBit (l .fields .white) (getD row x 0)) 0 ≡ pick b (bilevelBit (l .fields .white) (getD picture (y * l .fields .w + x) 0)) 0
         by x true e =
-            ap (bilevelBit (l .white)) (part-at (y * rowBytes l) (y * rowBytes l + rowBytes l) picture x (omega (arith, wide, ltb-true x (l .w) e)) ∙ ap (λ (n : ℕ). getD picture (y * n + x) 0) wide)
+            ap (bilevelBit (l .fields .white)) (part-at (y * rowBytes l) (y * rowBytes l + rowBytes l) picture x (omega (arith, wide, ltb-true x (l .fields .w) e)) ∙ ap (λ (n : ℕ). getD picture (y * n + x) 0) wide)
         by x false e = refl
 
-        each : (p : ℕ) → pick (ltb (8 * j + (7 - p)) (length row)) (bilevelBit (l .white) (getD row (8 * j + (7 - p)) 0)) 0 ≡ pick (ltb (8 * ((y * planeRow l + j) % l .«encoded_width») + (7 - p)) (l .w)) (bilevelBit (l .white) (getD picture ((y * planeRow l + j) / l .«encoded_width» * l .w + (8 * ((y * planeRow l + j) % l .«encoded_width») + (7 - p))) 0)) 0
+        each : (p : ℕ) → pick (ltb (8 * j + (7 - p)) (length row)) (bilevelBit (l .fields .white) (getD row (8 * j + (7 - p)) 0)) 0 ≡ pick (ltb (8 * ((y * planeRow l + j) % l .«encoded_width») + (7 - p)) (l .fields .w)) (bilevelBit (l .fields .white) (getD picture ((y * planeRow l + j) / l .«encoded_width» * l .fields .w + (8 * ((y * planeRow l + j) % l .«encoded_width») + (7 - p))) 0)) 0
         each p =
             let inner : j < l .«encoded_width» = omega (arith, bilevel-row eight .1) in
-            rw (bilevel-row eight .1, item-of y (l .«encoded_width») inner, group-of y (l .«encoded_width») inner, long) (by (8 * j + (7 - p)) (ltb (8 * j + (7 - p)) (l .w)) refl)
+            rw (bilevel-row eight .1, item-of y (l .«encoded_width») inner, group-of y (l .«encoded_width») inner, long) (by (8 * j + (7 - p)) (ltb (8 * j + (7 - p)) (l .fields .w)) refl)
 
   -- a row of samples
-  module _ (plain : packed l ≡ false) (xor : l .separate ≡ false) (narrow : eqb (l .bytes) 8 ≡ false) where
-    several : eqb (l .slots) 8 ≡ false
+  module _ (plain : packed l ≡ false) (xor : l .fields .separate ≡ false) (narrow : eqb (l .fields .bytes) 8 ≡ false) where
+    several : eqb (l .fields .slots) 8 ≡ false
     several = rw (plain-one l s plain .1)
 
-    width : OneOrTwo (l .bytes)
+    width : OneOrTwo (l .fields .bytes)
     width = one-or-two l s narrow
 
     -- in one plane a place takes the byte of the same place, but for the order of a word's bytes
-    place-here : (i : ℕ) → placeIndex l i ≡ highFirst (l .bytes) (l .le) i
+    place-here : (i : ℕ) → placeIndex l i ≡ highFirst (l .fields .bytes) (l .fields .le) i
     place-here i =
-        let stride = l .ch * l .bytes in
+        let stride = l .fields .ch * l .fields .bytes in
         let whole : i / stride * stride + i % stride ≡ i = div-add-mod' i stride in
-        let words-of : i / stride * stride ≡ i / stride * l .ch * l .bytes = sym (mul-assoc (i / stride) (l .ch) (l .bytes)) in
+        let words-of : i / stride * stride ≡ i / stride * l .fields .ch * l .fields .bytes = sym (mul-assoc (i / stride) (l .fields .ch) (l .fields .bytes)) in
         ap (placeIndex l) (sym whole)
         ∙ together-place l s plain xor (i / stride) (i % stride) (mod-lt i (stride-some l s))
-        ∙ ap (λ (n : ℕ). n + highFirst (l .bytes) (l .le) (i % stride)) words-of
-        ∙ sym (high-first-in (l .bytes) width (l .le) (i / stride * l .ch) (i % stride))
-        ∙ ap (highFirst (l .bytes) (l .le)) (ap (λ (n : ℕ). n + i % stride) (sym words-of) ∙ whole)
+        ∙ ap (λ (n : ℕ). n + highFirst (l .fields .bytes) (l .fields .le) (i % stride)) words-of
+        ∙ sym (high-first-in (l .fields .bytes) width (l .fields .le) (i / stride * l .fields .ch) (i % stride))
+        ∙ ap (highFirst (l .fields .bytes) (l .fields .le)) (ap (λ (n : ℕ). n + i % stride) (sym words-of) ∙ whole)
 
     module _ (picture : List ℕ) (y j : ℕ) (h : j < rowBytes l) where
-      row-place : placeIndex l (y * rowBytes l + j) ≡ y * rowBytes l + highFirst (l .bytes) (l .le) j
+      row-place : placeIndex l (y * rowBytes l + j) ≡ y * rowBytes l + highFirst (l .fields .bytes) (l .fields .le) j
       row-place =
-          let words-of : y * rowBytes l ≡ y * (l .w * l .ch) * l .bytes = ap (λ (n : ℕ). y * n) (sym (mul-assoc (l .w) (l .ch) (l .bytes))) ∙ sym (mul-assoc y (l .w * l .ch) (l .bytes)) in
+          let words-of : y * rowBytes l ≡ y * (l .fields .w * l .fields .ch) * l .fields .bytes = ap (λ (n : ℕ). y * n) (sym (mul-assoc (l .fields .w) (l .fields .ch) (l .fields .bytes))) ∙ sym (mul-assoc y (l .fields .w * l .fields .ch) (l .fields .bytes)) in
           place-here (y * rowBytes l + j)
-          ∙ ap (λ (n : ℕ). highFirst (l .bytes) (l .le) (n + j)) words-of
-          ∙ high-first-in (l .bytes) width (l .le) (y * (l .w * l .ch)) j
-          ∙ ap (λ (n : ℕ). n + highFirst (l .bytes) (l .le) j) (sym words-of)
+          ∙ ap (λ (n : ℕ). highFirst (l .fields .bytes) (l .fields .le) (n + j)) words-of
+          ∙ high-first-in (l .fields .bytes) width (l .fields .le) (y * (l .fields .w * l .fields .ch)) j
+          ∙ ap (λ (n : ℕ). n + highFirst (l .fields .bytes) (l .fields .le) j) (sym words-of)
 
-      over-row : flips l (placeIndex l (y * rowBytes l + j)) ≡ flipsChannel l (j % l .ch)
+      over-row : flips l (placeIndex l (y * rowBytes l + j)) ≡ flipsChannel l (j % l .fields .ch)
       unfolding highFirst
-      over-row = by (eqb (l .alpha) 0) refl
+      over-row = by (eqb (l .fields .alpha) 0) refl
         where
-          by : (b : Bool) → eqb (l .alpha) 0 ≡ b → (l .white && (b || not (eqb (placeIndex l (y * rowBytes l + j) % l .ch) (l .ch - 1)))) ≡ (l .white && (b || not (eqb (j % l .ch) (l .ch - 1))))
+          by : (b : Bool) → eqb (l .fields .alpha) 0 ≡ b → (l .fields .white && (b || not (eqb (placeIndex l (y * rowBytes l + j) % l .fields .ch) (l .fields .ch - 1)))) ≡ (l .fields .white && (b || not (eqb (j % l .fields .ch) (l .fields .ch - 1))))
           by true e = refl
           by false e =
-              let one : l .bytes ≡ 1 = alpha-bytes (record-accepted l s) (eqb-false (l .alpha) 0 e) in
-              let here : placeIndex l (y * rowBytes l + j) ≡ y * l .w * l .ch + j = row-place ∙ rw one (rw (mul-one (l .ch), mul-assoc y (l .w) (l .ch))) in
-              rw (here, mul-add-mod-self-right (y * l .w) (l .ch) j)
+              let one : l .fields .bytes ≡ 1 = alpha-bytes (record-accepted l s) (eqb-false (l .fields .alpha) 0 e) in
+              let here : placeIndex l (y * rowBytes l + j) ≡ y * l .fields .w * l .fields .ch + j = row-place ∙ rw one (rw (mul-one (l .fields .ch), mul-assoc y (l .fields .w) (l .fields .ch))) in
+              rw (here, mul-add-mod-self-right (y * l .fields .w) (l .fields .ch) j)
 
-      plain-byte : flipped (flipsChannel l (j % l .ch)) (getD (part (y * rowBytes l) (y * rowBytes l + rowBytes l) picture) (highFirst (l .bytes) (l .le) j) 0) ≡ written l picture (y * rowBytes l + j)
+      plain-byte : flipped (flipsChannel l (j % l .fields .ch)) (getD (part (y * rowBytes l) (y * rowBytes l + rowBytes l) picture) (highFirst (l .fields .bytes) (l .fields .le) j) 0) ≡ written l picture (y * rowBytes l + j)
       unfolding written
       plain-byte =
-          let inside = high-first-below (l .bytes) width (l .le) (rowBytes l) j (row-words l) h in
-          ap (flipped (flipsChannel l (j % l .ch))) (part-at (y * rowBytes l) (y * rowBytes l + rowBytes l) picture (highFirst (l .bytes) (l .le) j) (omega arith) ∙ ap (λ (k : ℕ). getD picture k 0) (sym row-place))
+          let inside = high-first-below (l .fields .bytes) width (l .fields .le) (rowBytes l) j (row-words l) h in
+          ap (flipped (flipsChannel l (j % l .fields .ch))) (part-at (y * rowBytes l) (y * rowBytes l + rowBytes l) picture (highFirst (l .fields .bytes) (l .fields .le) j) (omega arith) ∙ ap (λ (k : ℕ). getD picture k 0) (sym row-place))
           ∙ ap (λ (b : Bool). flipped b (getD picture (placeIndex l (y * rowBytes l + j)) 0)) (sym over-row)
           ∙ sym (not-picked _ _ several)
 
   -- whichever it is
-  module _ (narrow : eqb (l .bytes) 8 ≡ false) where
+  module _ (narrow : eqb (l .fields .bytes) 8 ≡ false) where
     row-byte : (picture : List ℕ) (y : ℕ) → y * rowBytes l + rowBytes l ≤ length picture → (j : ℕ) → j < planeRow l → rowAt l (part (y * rowBytes l) (y * rowBytes l + rowBytes l) picture) j ≡ written l picture (y * planeRow l + j)
     row-byte picture y inside j h = by shape
       where
-        by : (l .slots ≡ 8) ⊎ ((packed l ≡ false) × (l .separate ≡ false)) → rowAt l (part (y * rowBytes l) (y * rowBytes l + rowBytes l) picture) j ≡ written l picture (y * planeRow l + j)
-        by (inl e) = picked _ _ (eq-eqb (l .slots) 8 e) ∙ packed-byte e picture y inside j h
+        by : (l .fields .slots ≡ 8) ⊎ ((packed l ≡ false) × (l .fields .separate ≡ false)) → rowAt l (part (y * rowBytes l) (y * rowBytes l + rowBytes l) picture) j ≡ written l picture (y * planeRow l + j)
+        by (inl e) = picked _ _ (eq-eqb (l .fields .slots) 8 e) ∙ packed-byte e picture y inside j h
         by (inr q) =
             let same = plain-row-same (q .0) in
             not-picked _ _ (several (q .0) (q .1) narrow)
@@ -182,37 +182,37 @@ module _ (l : RasterLayout) (s : Sound (recordFaults l)) (bare : l .palette ≡ 
 
 -- a row, by itself
 module _ {l : RasterLayout} {row old : List ℕ} (fits : RowOf l row old) where
-  pub row-packed : l .slots ≡ 8 → (answer : Done) (new : List ℕ) → PackRow row (l .white) old answer new → RowWritten l row old new
+  pub row-packed : l .fields .slots ≡ 8 → (answer : Done) (new : List ℕ) → PackRow row (l .fields .white) old answer new → RowWritten l row old new
   row-packed e answer new p =
       let sides = bilevel-row l (fits .sound) (fits .bare) (fits .together) e in
       let enough : eighths (length row) ≡ length old = omega (arith, sides, fits .all, fits .room, bilevel-eighths l (fits .sound) (fits .bare) (fits .together) e) in
-      finished (packFaults row old) tt (eighths (length row)) (packedAt (l .white) row) old new (next (le-ltb (length old) (eighths (length row)) (omega arith)) none) p
-      ∙ filled-all (eighths (length row)) (packedAt (l .white) row) old (omega arith)
-      ∙ ap (λ (n : ℕ). table n (packedAt (l .white) row)) enough
-      ∙ table-same (length old) _ _ (λ j h. sym (picked _ _ (eq-eqb (l .slots) 8 e)))
+      finished (packFaults row old) tt (eighths (length row)) (packedAt (l .fields .white) row) old new (next (le-ltb (length old) (eighths (length row)) (omega arith)) none) p
+      ∙ filled-all (eighths (length row)) (packedAt (l .fields .white) row) old (omega arith)
+      ∙ ap (λ (n : ℕ). table n (packedAt (l .fields .white) row)) enough
+      ∙ table-same (length old) _ _ (λ j h. sym (picked _ _ (eq-eqb (l .fields .slots) 8 e)))
 
-  module _ (n : l .slots ≡ 8 → ⊥) where
+  module _ (n : l .fields .slots ≡ 8 → ⊥) where
     not-packed : packed l ≡ false
-    not-packed = rw (fits .bare, ne-eqb (l .slots) 8 n)
+    not-packed = rw (fits .bare, ne-eqb (l .fields .slots) 8 n)
 
     pub plain-fits : PlainFits l row old
     plain-fits =
         record {
           width = one-or-two l (fits .sound) (fits .narrow);
           some = record-accepted l (fits .sound) .some;
-          words = ap (λ (k : ℕ). k % l .bytes) (fits .all) ∙ row-words l;
-          pixels = ap (λ (k : ℕ). k % l .ch) (fits .all) ∙ row-pixels l;
+          words = ap (λ (k : ℕ). k % l .fields .bytes) (fits .all) ∙ row-words l;
+          pixels = ap (λ (k : ℕ). k % l .fields .ch) (fits .all) ∙ row-pixels l;
           room = fits .room ∙ plain-row-same l (fits .sound) (fits .bare) (fits .together) not-packed ∙ sym (fits .all);
         }
 
     pub row-plain : (new : List ℕ) → PlainRow l row old new → RowWritten l row old new
-    row-plain new p = p ∙ table-same (length old) _ _ (λ j h. sym (not-picked _ _ (ne-eqb (l .slots) 8 n)))
+    row-plain new p = p ∙ table-same (length old) _ _ (λ j h. sym (not-picked _ _ (ne-eqb (l .fields .slots) 8 n)))
 
 -- the loop over the rows
 pub record Rowwise (l : RasterLayout) (picture old : List ℕ) (from at y : ℕ) (out : List ℕ) : Type 0 where
   pub from-is : from ≡ y * rowBytes l
   pub at-is : at ≡ y * planeRow l
-  pub inside : y ≤ l .h
+  pub inside : y ≤ l .fields .h
   pub same : length out ≡ length old
   pub so-far : out ≡ filled at (written l picture) old
 
@@ -221,15 +221,15 @@ rows-none l picture old =
     record { from-is = sym (zero-mul (rowBytes l)); at-is = sym (zero-mul (planeRow l)); inside = omega arith; same = refl; so-far = refl }
 
 module _ {l : RasterLayout} {picture old : List ℕ} {from at y : ℕ} {out : List ℕ} (fits : Together l picture old) (is : Rowwise l picture old from at y out) where
-  scratch : l .«scratch_len» ≡ l .h * planeRow l
+  scratch : l .«scratch_len» ≡ l .fields .h * planeRow l
   scratch = scratch-rows l (fits .served .sound) (fits .served .bare) (fits .together)
 
-  module _ (more : y < l .h) where
+  module _ (more : y < l .fields .h) where
     pub row-room : (from + rowBytes l ≤ length picture) × ((at + planeRow l ≤ length old) × (at + planeRow l ≤ byteLimit))
     row-room =
         let served = fits .served in
-        let read : (y + 1) * rowBytes l ≤ l .h * rowBytes l = mul-le-mul-right (rowBytes l) (omega arith) in
-        let wrote : (y + 1) * planeRow l ≤ l .h * planeRow l = mul-le-mul-right (planeRow l) (omega arith) in
+        let read : (y + 1) * rowBytes l ≤ l .fields .h * rowBytes l = mul-le-mul-right (rowBytes l) (omega arith) in
+        let wrote : (y + 1) * planeRow l ≤ l .fields .h * planeRow l = mul-le-mul-right (planeRow l) (omega arith) in
         let end : at + planeRow l ≤ l .«scratch_len» = omega (arith, is .at-is, add-mul y 1 (planeRow l), one-mul (planeRow l), scratch) in
         (omega (arith, is .from-is, add-mul y 1 (rowBytes l), one-mul (rowBytes l), output-rows l (served .sound), served .all), (omega (arith, served .room), omega (arith, scratch-limited l (served .sound))))
 
@@ -261,8 +261,8 @@ module _ {l : RasterLayout} {picture old : List ℕ} {from at y : ℕ} {out : Li
           so-far = now;
         }
 
-  pub rows-ended : l .h ≤ y → WrittenInto l picture old out
+  pub rows-ended : l .fields .h ≤ y → WrittenInto l picture old out
   rows-ended end =
-      let all : y ≡ l .h = omega (arith, is .inside) in
+      let all : y ≡ l .fields .h = omega (arith, is .inside) in
       let whole : at ≡ l .«scratch_len» = is .at-is ∙ ap (λ (n : ℕ). n * planeRow l) all ∙ sym scratch in
       rw whole at (is .so-far)

@@ -21,8 +21,8 @@ WriteChecked l picture planes answer = doneOutcome answer ≡ unless (writeFault
 -- past every refusal
 pub record Served (l : RasterLayout) (picture planes : List ℕ) : Type 0 where
   pub sound : Sound (recordFaults l)
-  pub bare : l .palette ≡ false
-  pub narrow : eqb (l .bytes) 8 ≡ false
+  pub bare : l .fields .palette ≡ false
+  pub narrow : eqb (l .fields .bytes) 8 ≡ false
   pub all : l .«output_len» ≤ length picture
   pub room : l .«scratch_len» ≤ length planes
 
@@ -31,7 +31,7 @@ WrittenInto l picture old new = new ≡ filled (l .«scratch_len») (written l p
 
 -- channels stand in planes of their own
 abbrev pub planar : RasterLayout → Bool
-planar l = l .separate && not (eqb (l .slots) 8)
+planar l = l .fields .separate && not (eqb (l .fields .slots) 8)
 
 -- byte j of one channel of the pixels of a picture, whose first byte stands at `first`
 abbrev pub channelAt : List ℕ → ℕ → ℕ → ℕ → Bool → ℕ → ℕ
@@ -49,10 +49,10 @@ ChannelInto picture first stride bytes le old new = new ≡ table (length old) (
 -- the plane of channel c
 pub record PlaneOf (l : RasterLayout) (picture : List ℕ) (c : ℕ) (out : List ℕ) : Type 0 where
   pub sound : Sound (recordFaults l)
-  pub narrow : eqb (l .bytes) 8 ≡ false
+  pub narrow : eqb (l .fields .bytes) 8 ≡ false
   pub all : l .«output_len» ≤ length picture
   pub apart : planar l ≡ true
-  pub channel : c < l .ch
+  pub channel : c < l .fields .ch
   pub room : length out ≡ l .«plane_len»
 
 abbrev pub PlaneWritten : RasterLayout → List ℕ → ℕ → List ℕ → List ℕ → Type 0
@@ -64,31 +64,31 @@ pub record Apart (l : RasterLayout) (picture planes : List ℕ) : Type 0 where
 
 -- pixels whose bytes stand together, turned over by white
 abbrev pub RowFlipped : RasterLayout → List ℕ → List ℕ → Type 0
-RowFlipped l old new = new ≡ table (length old) (λ j. flipped (flipsChannel l (j % l .ch)) (getD old j 0))
+RowFlipped l old new = new ≡ table (length old) (λ j. flipped (flipsChannel l (j % l .fields .ch)) (getD old j 0))
 
 -- a row of bytes or words
 pub record PlainFits (l : RasterLayout) (row out : List ℕ) : Type 0 where
-  pub width : OneOrTwo (l .bytes)
-  pub some : 0 < l .ch
-  pub words : length row % l .bytes ≡ 0
-  pub pixels : length row % l .ch ≡ 0
+  pub width : OneOrTwo (l .fields .bytes)
+  pub some : 0 < l .fields .ch
+  pub words : length row % l .fields .bytes ≡ 0
+  pub pixels : length row % l .fields .ch ≡ 0
   pub room : length out ≡ length row
 
 abbrev pub PlainRow : RasterLayout → List ℕ → List ℕ → List ℕ → Type 0
-PlainRow l row old new = new ≡ table (length old) (λ j. flipped (flipsChannel l (j % l .ch)) (getD row (highFirst (l .bytes) (l .le) j) 0))
+PlainRow l row old new = new ≡ table (length old) (λ j. flipped (flipsChannel l (j % l .fields .ch)) (getD row (highFirst (l .fields .bytes) (l .fields .le) j) 0))
 
 -- a row of the picture, and room for its row of the planes
 pub record RowOf (l : RasterLayout) (row out : List ℕ) : Type 0 where
   pub sound : Sound (recordFaults l)
-  pub bare : l .palette ≡ false
-  pub narrow : eqb (l .bytes) 8 ≡ false
+  pub bare : l .fields .palette ≡ false
+  pub narrow : eqb (l .fields .bytes) 8 ≡ false
   pub together : planar l ≡ false
   pub all : length row ≡ rowBytes l
   pub room : length out ≡ planeRow l
 
 -- byte j of a row of the planes
 abbrev pub rowAt : RasterLayout → List ℕ → ℕ → ℕ
-rowAt l row j = pick (eqb (l .slots) 8) (packedAt (l .white) row j) (flipped (flipsChannel l (j % l .ch)) (getD row (highFirst (l .bytes) (l .le) j) 0))
+rowAt l row j = pick (eqb (l .fields .slots) 8) (packedAt (l .fields .white) row j) (flipped (flipsChannel l (j % l .fields .ch)) (getD row (highFirst (l .fields .bytes) (l .fields .le) j) 0))
 
 abbrev pub RowWritten : RasterLayout → List ℕ → List ℕ → List ℕ → Type 0
 RowWritten l row old new = new ≡ table (length old) (rowAt l row)

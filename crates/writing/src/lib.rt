@@ -16,13 +16,13 @@ fn check_planes(l: RasterLayout, picture: &[u8], planes: &[u8]) -> Done
     requires { ⌜ Sound (recordFaults l) ⌝ }
     ensures { λ r. ⌜ WriteChecked l (now (picture .entry)) (now (planes .entry)) r ⌝ }
 {
-    if l.palette {
+    if l.fields.palette {
         return Done::Refused(Refusal::Unsupported);
     }
-    if l.bytes == 8 {
+    if l.fields.bytes == 8 {
         return Done::Refused(Refusal::Unsupported);
     }
-    if l.alpha == 1 {
+    if l.fields.alpha == 1 {
         return Done::Refused(Refusal::Unsupported);
     }
     if picture.len() < l.output_len {
@@ -31,8 +31,8 @@ fn check_planes(l: RasterLayout, picture: &[u8], planes: &[u8]) -> Done
     if planes.len() < l.scratch_len {
         return Done::Refused(Refusal::OutputTooSmall);
     }
-    if l.slots == 8 {
-        if !levels::two_levels(picture, l.w, l.h) {
+    if l.fields.slots == 8 {
+        if !levels::two_levels(picture, l.fields.w, l.fields.h) {
             return Done::Refused(Refusal::Invalid);
         }
     }
@@ -53,7 +53,7 @@ fn check_write(l: RasterLayout, picture: &[u8], planes: &[u8]) -> Done
 fn is_planar(l: RasterLayout) -> bool
     ensures { λ r. ⌜ r ≡ planarOf l ⌝ }
 {
-    if l.separate { l.slots != 8 } else { false }
+    if l.fields.separate { l.fields.slots != 8 } else { false }
 }
 
 // What is not refused, written.

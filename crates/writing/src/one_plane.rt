@@ -5,14 +5,14 @@ ghost use Rattle.writing.specs.Parts.{RowFlipped, PlainFits, PlainRow, R
 
 // White turns over every byte but alpha's.
 fn flip_row(l: RasterLayout, s: &mut [u8])
-    requires { ⌜ WholePixels (now s) (l .ch) ⌝ }
+    requires { ⌜ WholePixels (now s) (l .fields .ch) ⌝ }
     ensures { λ r. ⌜ RowFlipped l (now (s .entry)) (now (s .exit)) ⌝ }
 {
-    if l.white {
-        if l.alpha == 0 {
+    if l.fields.white {
+        if l.fields.alpha == 0 {
             pixels::invert(s);
         } else {
-            pixels::straighten_row(s, l.ch, false, true);
+            pixels::straighten_row(s, l.fields.ch, false, true);
         }
     }
 }
@@ -22,7 +22,7 @@ fn plain_row(l: RasterLayout, row: &[u8], out: &mut [u8])
     requires { ⌜ PlainFits l (now row) (now out) ⌝ }
     ensures { λ r. ⌜ PlainRow l (now (row .entry)) (now (out .entry)) (now (out .exit)) ⌝ }
 {
-    samples::reorder(row, l.bytes, false, l.le, out);
+    samples::reorder(row, l.fields.bytes, false, l.fields.le, out);
     flip_row(l, out);
 }
 
@@ -31,8 +31,8 @@ fn write_row(l: RasterLayout, row: &[u8], out: &mut [u8])
     requires { ⌜ RowOf l (now row) (now out) ⌝ }
     ensures { λ r. ⌜ RowWritten l (now (row .entry)) (now (out .entry)) (now (out .exit)) ⌝ }
 {
-    if l.slots == 8 {
-        packed::pack_row(row, l.white, out);
+    if l.fields.slots == 8 {
+        packed::pack_row(row, l.fields.white, out);
     } else {
         plain_row(l, row, out);
     }
@@ -43,12 +43,12 @@ pub(crate) fn write_rows(l: RasterLayout, picture: &[u8], planes: &mut [u8])
     requires { ⌜ Together l (now picture) (now planes) ⌝ }
     ensures { λ r. ⌜ WrittenInto l (now (picture .entry)) (now (planes .entry)) (now (planes .exit)) ⌝ }
 {
-    let read = l.w * (l.ch * l.bytes);
+    let read = l.fields.w * (l.fields.ch * l.fields.bytes);
     let wrote = l.encoded_width * l.plane_channels;
     let mut from: usize = 0;
     let mut at: usize = 0;
     let mut y: usize = 0;
-    while y < l.h {
+    while y < l.fields.h {
         let end = from + read;
         let stop = at + wrote;
         write_row(l, &picture[from..end], &mut planes[at..stop]);

@@ -49,11 +49,11 @@ fn channel(picture: &[u8], first: usize, stride: usize, bytes: usize, le: bool, 
 
 // Whether white turns channel c over: every one but alpha.
 fn flips_channel(l: RasterLayout, c: usize) -> bool
-    requires { ⌜ c < l .ch ⌝ }
+    requires { ⌜ c < l .fields .ch ⌝ }
     ensures { λ r. ⌜ r ≡ flipsChannel l c ⌝ }
 {
-    if l.white {
-        if l.alpha == 0 { true } else { c != l.ch - 1 }
+    if l.fields.white {
+        if l.fields.alpha == 0 { true } else { c != l.fields.ch - 1 }
     } else {
         false
     }
@@ -64,7 +64,7 @@ fn write_plane(l: RasterLayout, picture: &[u8], c: usize, out: &mut [u8])
     requires { ⌜ PlaneOf l (now picture) c (now out) ⌝ }
     ensures { λ r. ⌜ PlaneWritten l (now (picture .entry)) c (now (out .entry)) (now (out .exit)) ⌝ }
 {
-    channel(picture, c * l.bytes, l.ch * l.bytes, l.bytes, l.le, out);
+    channel(picture, c * l.fields.bytes, l.fields.ch * l.fields.bytes, l.fields.bytes, l.fields.le, out);
     if flips_channel(l, c) {
         pixels::invert(out);
     }
@@ -77,7 +77,7 @@ pub(crate) fn write_apart(l: RasterLayout, picture: &[u8], planes: &mut [u8])
 {
     let mut start: usize = 0;
     let mut c: usize = 0;
-    while c < l.ch {
+    while c < l.fields.ch {
         let end = start + l.plane_len;
         write_plane(l, picture, c, &mut planes[start..end]);
         start = end;

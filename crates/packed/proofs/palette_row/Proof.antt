@@ -10,7 +10,7 @@ use Rattle.answer.specs.Outcome.{Sound}
 use Rattle.answer.proofs.Promised.{refuses, finishes, passed, stopped}
 use Rattle.words.specs.Word.{Bytes}
 use Rattle.layout.specs.Layout.{oneTwoEight}
-use Rattle.pixels.proofs.Turned.{high-few}
+use Rattle.pixels.proofs.HighFirst.{high-few}
 use Rattle.packed.specs.Rows.{paletteAt, paletteFaults, PaintFits}
 use Rattle.packed.proofs.Painting.{colours-few, paint-fits, palette-filled}
 use Rattle.packed.proofs.palette_row.Statement.{statement}

@@ -43,7 +43,7 @@ returns-2 : tie.Need-returns-2
 returns-2 c =
     let start = c .before .before .before .before .before .before .before .before .before .before .before in
     let off = c .before .before .before .before .if1 .left in
-    bilevel-rendered (start .pre .0) (start .pre .1) off (⊎-elim (λ t. clash t off) (λ q. q) (either (up (start .args .l .palette)) (equal (start .args .l .slots) 8) .tells (start .pre .1))) (c .before .before .bilevel-row .result) _ (c .before .before .bilevel-row .ensures)
+    bilevel-rendered (start .pre .0) (start .pre .1) off (⊎-elim (λ t. clash t off) (λ q. q) (either (up (start .args .l .fields .palette)) (equal (start .args .l .fields .slots) 8) .tells (start .pre .1))) (c .before .before .bilevel-row .result) _ (c .before .before .bilevel-row .ensures)
 
 pub packed-row-spec : {M : Type 1} → statement M
 packed-row-spec =

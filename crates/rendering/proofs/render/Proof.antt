@@ -30,10 +30,10 @@ checked : (c : tie.After-enum-told) → Sound (recordFaults (c .before .before .
 checked c = passed (recordFaults (c .before .before .before .before .before .before .args .l)) (c .before .before .check-record .result) (c .before .before .check-record .ensures) (c .enum-told .given .1)
 
 -- the tests that were passed
-not-eight : (c : tie.Else1) → eqb (c .before .before .before .before .before .before .before .before .args .l .bytes) 8 ≡ false
+not-eight : (c : tie.Else1) → eqb (c .before .before .before .before .before .before .before .before .args .l .fields .bytes) 8 ≡ false
 not-eight c = ne-eqb _ _ (c .if1 .left)
 
-map-found : (c : tie.Else2) → let args = c .before .before .before .before .before .before .before .before .before .before .args in (args .l .palette && ltb (length (now (args .file))) (args .l .map + 6 * args .l .colors)) ≡ false
+map-found : (c : tie.Else2) → let args = c .before .before .before .before .before .before .before .before .before .before .args in (args .l .fields .palette && ltb (length (now (args .file))) (args .l .fields .map + 6 * args .l .colors)) ≡ false
 map-found c = sym (c .before .map-beyond .ensures) ∙ c .if2 .left
 
 returns : tie.Need-returns
@@ -65,7 +65,7 @@ render-rows-requires c κs =
     record {
       sound = checked (c .before .before .before .before .before .before .before .before .before);
       bytes = not-eight (c .before .before .before .before .before .before .before);
-      map = map-inside (args .l .palette) _ _ (map-found (c .before .before .before .before .before));
+      map = map-inside (args .l .fields .palette) _ _ (map-found (c .before .before .before .before .before));
       planes = omega (arith, c .before .before .before .if3 .left);
       room = omega (arith, c .before .if4 .left);
     }

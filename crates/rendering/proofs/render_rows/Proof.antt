@@ -10,7 +10,7 @@ abbrev Inv-loop : tie.InvT-loop
 Inv-loop l file raw out₀ row-bytes at₀ y₀ out at y = Rows l file raw out₀ y at out
 
 abbrev μ-loop : tie.MeasureT-loop
-μ-loop l file raw out₀ row-bytes at₀ y₀ out at y = l .h - y
+μ-loop l file raw out₀ row-bytes at₀ y₀ out at y = l .fields .h - y
 
 mul-row-bytes : tie.Need-mul-row-bytes Inv-loop μ-loop
 mul-row-bytes c = let start = c .before .before .before .before in record { fits = omega (arith, row-small (start .pre) .0, row-small (start .pre) .1) }

@@ -3,7 +3,7 @@ use native.Mathlib.Omega.{arith}
 use mathlib.Core.Path.{refl}
 use Prim.Native.Nat.{_≤_}
 use mir.Facts.{fits-below}
-use Rattle.layout.specs.Layout.{given, byteLimit, packedIndex}
+use Rattle.layout.specs.Layout.{byteLimit, packedIndex}
 use Rattle.layout.proofs.Accepted.{Accepted, up-to-eight}
 use Rattle.layout.proofs.Whole.{record-accepted}
 use Rattle.layout.proofs.Placed.{packed-below, scratch-limited}
@@ -14,7 +14,7 @@ returns : tie.Need-returns
 unfolding packedIndex
 returns c = refl
 
-known : (c : tie.Start) → Accepted (given (c .args .l))
+known : (c : tie.Start) → Accepted (c .args .l .fields)
 known c = record-accepted (c .args .l) (c .pre .0 .sound)
 
 div-p : tie.Need-div-p

@@ -3,7 +3,7 @@ use borrow.Author.Needs.{needs}
 use native.Mathlib.Omega.{arith}
 use Prim.Native.Nat.{_+_, _*_, _/_, _%_, _≤_}
 use mir.Facts.{fits-below}
-use Rattle.layout.specs.Layout.{byteLimit, given, plainIndex}
+use Rattle.layout.specs.Layout.{byteLimit, plainIndex}
 use Rattle.layout.proofs.Accepted.{Accepted, up-to-eight}
 use Rattle.layout.proofs.Sizes.{bytes-few}
 use Rattle.layout.proofs.Whole.{record-accepted}
@@ -19,11 +19,11 @@ returns-2 : tie.Need-returns-2
 unfolding plainIndex
 returns-2 c = rw (c .before .high-first .ensures, c .if1 .left)
 
-known : (c : tie.Start) → Accepted (given (c .args .l))
+known : (c : tie.Start) → Accepted (c .args .l .fields)
 known c = record-accepted (c .args .l) (c .pre .0 .sound)
 
 mul-stride : tie.Need-mul-stride
-mul-stride c = fits-below tt (bytes-few (given (c .before .args .l)) (known (c .before)))
+mul-stride c = fits-below tt (bytes-few (c .before .args .l .fields) (known (c .before)))
 
 div-p : tie.Need-div-p
 div-p c = stride-some (c .before .args .l) (c .before .pre .0 .sound)
@@ -43,11 +43,11 @@ limited c =
     let asked = c .pre .0 in
     omega (arith, plain-below (c .args .l) (asked .sound) (c .args .k) (c .pre .1) (asked .within), scratch-limited (c .args .l) (asked .sound))
 
-separate : (c : tie.Then1) → let l = c .before .before .before .args .l in let at = c .before .high-first .result in at / l .bytes * l .«plane_len» + c .before .before .before .args .k / (l .ch * l .bytes) * l .bytes + at % l .bytes ≤ byteLimit
+separate : (c : tie.Then1) → let l = c .before .before .before .args .l in let at = c .before .high-first .result in at / l .fields .bytes * l .«plane_len» + c .before .before .before .args .k / (l .fields .ch * l .fields .bytes) * l .fields .bytes + at % l .fields .bytes ≤ byteLimit
 unfolding plainIndex
 separate c = rw (c .before .high-first .ensures) (rw (c .if1 .taken) at (limited (c .before .before .before)))
 
-interleaved : (c : tie.Else1) → let l = c .before .before .before .args .l in c .before .before .before .args .k / (l .ch * l .bytes) * (l .ch * l .bytes) + c .before .high-first .result ≤ byteLimit
+interleaved : (c : tie.Else1) → let l = c .before .before .before .args .l in c .before .before .before .args .k / (l .fields .ch * l .fields .bytes) * (l .fields .ch * l .fields .bytes) + c .before .high-first .result ≤ byteLimit
 unfolding plainIndex
 interleaved c = rw (c .before .high-first .ensures) (rw (c .if1 .left) at (limited (c .before .before .before)))
 

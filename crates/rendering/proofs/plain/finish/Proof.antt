@@ -25,7 +25,7 @@ returns : tie.Need-returns
 returns c =
     let start = c .before .before .before .before .before .before .before in
     let kind = c .before .before .before .before .if1 .taken in
-    straight-finished (start .args .l) (now (start .args .out)) (start .pre) (ne-eqb (start .args .l .alpha) 0 (omega (arith, kind))) true _ (eq-eqb _ _ kind) refl (c .before .before .straighten-row .result) _ (c .before .before .straighten-row .ensures)
+    straight-finished (start .args .l) (now (start .args .out)) (start .pre) (ne-eqb (start .args .l .fields .alpha) 0 (omega (arith, kind))) true _ (eq-eqb _ _ kind) refl (c .before .before .straighten-row .result) _ (c .before .before .straighten-row .ensures)
 
 same-length-2 : tie.Need-same-length-2
 same-length-2 c = search needs

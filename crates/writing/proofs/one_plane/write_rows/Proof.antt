@@ -10,7 +10,7 @@ abbrev Inv-loop : tie.InvT-loop
 Inv-loop l picture planes₀ read wrote from₀ at₀ y₀ planes from at y = Rowwise l picture planes₀ from at y planes
 
 abbrev μ-loop : tie.MeasureT-loop
-μ-loop l picture planes₀ read wrote from₀ at₀ y₀ planes from at y = l .h - y
+μ-loop l picture planes₀ read wrote from₀ at₀ y₀ planes from at y = l .fields .h - y
 
 mul-read : tie.Need-mul-read Inv-loop μ-loop
 mul-read c = let start = c .before .before .before in omega (arith, rows-few (start .args .l) (start .pre .served .sound) (start .pre .served .bare) (start .pre .together))

@@ -9,10 +9,10 @@ sub-result : tie.Need-sub-result
 sub-result c = search needs
 
 returns : tie.Need-returns
-returns c = rw (c .before .before .if1 .taken, eq-eqb (c .before .before .before .args .l .alpha) 0 (omega (arith, c .if2 .taken)))
+returns c = rw (c .before .before .if1 .taken, eq-eqb (c .before .before .before .args .l .fields .alpha) 0 (omega (arith, c .if2 .taken)))
 
 returns-2 : tie.Need-returns-2
-returns-2 c = rw (c .before .before .before .if1 .taken, ne-eqb (c .before .before .before .before .args .l .alpha) 0 (λ z. omega (arith, c .before .if2 .left)))
+returns-2 c = rw (c .before .before .before .if1 .taken, ne-eqb (c .before .before .before .before .args .l .fields .alpha) 0 (λ z. omega (arith, c .before .if2 .left)))
 
 returns-3 : tie.Need-returns-3
 returns-3 c = rw (c .if1 .left)

@@ -10,7 +10,7 @@ abbrev Inv-loop : tie.InvT-loop
 Inv-loop l picture planes₀ start₀ c₀ planes start c = Planewise l picture planes₀ start c planes
 
 abbrev μ-loop : tie.MeasureT-loop
-μ-loop l picture planes₀ start₀ c₀ planes start c = l .ch - c
+μ-loop l picture planes₀ start₀ c₀ planes start c = l .fields .ch - c
 
 loop-holds : tie.Need-loop-holds Inv-loop μ-loop
 loop-holds c = planes-none _ _ _

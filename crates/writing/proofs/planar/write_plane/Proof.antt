@@ -11,7 +11,7 @@ use Rattle.writing.proofs.planar.write_plane.Statement.{statement}
 use Rattle.writing.proofs.planar.write_plane.Tie as tie
 
 -- the channel's bytes
-fits : (c : tie.Start) → let args = c .args in let l = args .l in ChannelFits (now (args .picture)) (args .c * l .bytes) (l .ch * l .bytes) (l .bytes) (now (args .out))
+fits : (c : tie.Start) → let args = c .args in let l = args .l in ChannelFits (now (args .picture)) (args .c * l .fields .bytes) (l .fields .ch * l .fields .bytes) (l .fields .bytes) (now (args .out))
 fits c =
     let pre = c .pre in channel-fits (c .args .l) (pre .sound) (pre .narrow) (pre .apart) (now (c .args .picture)) (c .args .c) (pre .channel) (pre .all) (now (c .args .out)) (pre .room)
 
