@@ -1,8 +1,8 @@
 -- Each promise of this crate allows one number, one content of the buffer and one lent value: it names an answer, and the promise of the
 -- crate that answers allows one. Assumes nothing.
 use Prim.Native.Nat.{ℕ}
-use mathlib.Core.Path.{_≡_, sym, ap, _∙_}
-use mathlib.Core.Bool.{Bool}
+use mathlib.Core.Path.{_≡_, refl, sym, ap, _∙_}
+use mathlib.Core.Bool.{Bool, true, false}
 use mathlib.Core.List.{List}
 use Rattle.answer.specs.Outcome.{Outcome, doneOutcome}
 use Rattle.words.specs.Promises.{ReadWord, LoadedWord, wordOutcome, loadedOutcome}
@@ -25,6 +25,7 @@ use Rattle.pixels.specs.Planes.{Written}
 use Rattle.rendering.proofs.Determined.{render-determined}
 use Rattle.writing.proofs.Determined.{write-planes-determined}
 use Rattle.capi.specs.Told.{status, lent, derivedOutcome, Told, Lent}
+use Rattle.capi.specs.OnLayouts.{fieldsOf, flagged, OnLayout, Refused}
 
 -- where two allowed answers are the same, and E follows besides, so are the numbers and what is lent back
 module _ {D A E : Type 0} {outcome : D → Outcome A} {P Q : D → Type 0} {r s : ℕ} (one : (a b : D) → P a → Q b → (a ≡ b) × E) where
@@ -69,18 +70,25 @@ module _ (r s : ℕ) where
   pub hamrisk-commit-determined : (source old x y : List ℕ) → Told doneOutcome (λ d. Committed source old d x) r → Told doneOutcome (λ d. Committed source old d y) s → (r ≡ s) × (x ≡ y)
   hamrisk-commit-determined source old x y = told-once (λ a b. commit-uninit-determined source old a b x y)
 
-  module _ (f : Fields) where
-    pub hamrisk-check-layout-determined : (old v w : List ℕ) → Lent derivedOutcome (LayoutChecked f) r old v → Lent derivedOutcome (LayoutChecked f) s old w → (r ≡ s) × (v ≡ w)
-    hamrisk-check-layout-determined old v w t u = lent-once (λ a b p q. (check-layout-determined f a b p q, tt {0})) t u .0
+  module _ (layout : List ℕ) where
+    on-once : {A : Type 0} {old x y : A} {P Q : Fields → Type 0} → ((f : Fields) → P f → Q f → (r ≡ s) × (x ≡ y)) → OnLayout layout P (Refused r old x) → OnLayout layout Q (Refused s old y) → (r ≡ s) × (x ≡ y)
+    on-once {A} {old} {x} {y} one p q = by (flagged layout) refl
+      where
+        by : (b : Bool) → flagged layout ≡ b → (r ≡ s) × (x ≡ y)
+        by true e = let u = p .unserved e in let v = q .unserved e in (u .0 ∙ sym (v .0), u .1 ∙ sym (v .1))
+        by false e = one (fieldsOf layout) (p .served e) (q .served e)
 
-    pub hamrisk-index-determined : (k old v w : ℕ) → Lent placeOutcome (Indexed (completed f) k) r old v → Lent placeOutcome (Indexed (completed f) k) s old w → (r ≡ s) × (v ≡ w)
-    hamrisk-index-determined k old v w t u = lent-once (λ a b p q. (index-determined (completed f) k a b p q, tt {0})) t u .0
+    pub hamrisk-check-layout-determined : (old v w : List ℕ) → OnLayout layout (λ f. Lent derivedOutcome (LayoutChecked f) r old v) (Refused r old v) → OnLayout layout (λ f. Lent derivedOutcome (LayoutChecked f) s old w) (Refused s old w) → (r ≡ s) × (v ≡ w)
+    hamrisk-check-layout-determined old v w = on-once (λ f t u. lent-once (λ a b p q. (check-layout-determined f a b p q, tt {0})) t u .0)
 
-    pub hamrisk-render-determined : (file raw old x y : List ℕ) → Told doneOutcome (λ d. Rendered (completed f) file raw old d x) r → Told doneOutcome (λ d. Rendered (completed f) file raw old d y) s → (r ≡ s) × (x ≡ y)
-    hamrisk-render-determined file raw old x y = told-once (λ a b. render-determined (completed f) file raw old a b x y)
+    pub hamrisk-index-determined : (k old v w : ℕ) → OnLayout layout (λ f. Lent placeOutcome (Indexed (completed f) k) r old v) (Refused r old v) → OnLayout layout (λ f. Lent placeOutcome (Indexed (completed f) k) s old w) (Refused s old w) → (r ≡ s) × (v ≡ w)
+    hamrisk-index-determined k old v w = on-once (λ f t u. lent-once (λ a b p q. (index-determined (completed f) k a b p q, tt {0})) t u .0)
 
-    pub hamrisk-write-planes-determined : (picture old x y : List ℕ) → Told doneOutcome (λ d. Written (completed f) picture old d x) r → Told doneOutcome (λ d. Written (completed f) picture old d y) s → (r ≡ s) × (x ≡ y)
-    hamrisk-write-planes-determined picture old x y = told-once (λ a b. write-planes-determined (completed f) picture old a b x y)
+    pub hamrisk-render-determined : (file raw old x y : List ℕ) → OnLayout layout (λ f. Told doneOutcome (λ d. Rendered (completed f) file raw old d x) r) (Refused r old x) → OnLayout layout (λ f. Told doneOutcome (λ d. Rendered (completed f) file raw old d y) s) (Refused s old y) → (r ≡ s) × (x ≡ y)
+    hamrisk-render-determined file raw old x y = on-once (λ f. told-once (λ a b. render-determined (completed f) file raw old a b x y))
+
+    pub hamrisk-write-planes-determined : (picture old x y : List ℕ) → OnLayout layout (λ f. Told doneOutcome (λ d. Written (completed f) picture old d x) r) (Refused r old x) → OnLayout layout (λ f. Told doneOutcome (λ d. Written (completed f) picture old d y) s) (Refused s old y) → (r ≡ s) × (x ≡ y)
+    hamrisk-write-planes-determined picture old x y = on-once (λ f. told-once (λ a b. write-planes-determined (completed f) picture old a b x y))
 
 pub hamrisk-reverse-bits-determined : (old x y : List ℕ) → Reversed old x → Reversed old y → x ≡ y
 hamrisk-reverse-bits-determined = reverse-bits-determined

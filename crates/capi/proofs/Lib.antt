@@ -1,3 +1,4 @@
 pub mod Telling
-pub mod Layouts
+pub mod OnLayouts
+pub mod Flags
 pub mod Determined

@@ -1,13 +1,10 @@
 // The C interface: a thin function for each call, which include/hamrisk.h declares. Each returns 0 for done or document 01's number of the
-// refusal; a value comes back through a lent number, which a refusal leaves as it was. A layout comes in as its eleven numbers, never as a record.
+// refusal; a value comes back through a lent number, which a refusal leaves as it was.
 use answer::ByteAt;
 use answer::Done;
 use answer::SampleAt;
 
-mod check_layout;
-mod index;
-mod render;
-mod write_planes;
+mod layouts;
 
 ghost use mathlib.Core.Path.{_≡_};
 ghost use Rattle.answer.specs.Outcome.{doneOutcome};

@@ -1,11 +1,14 @@
--- The layout step, with which three calls begin: what it refuses, the call over the completed record refuses with the same number;
+-- The layout step, with which four calls begin: what it refuses, the call over the completed record refuses with the same number;
 -- and the record that it answers is the completed one, so that what is promised of one is promised of the other. Assumes nothing.
 use Prim.Native.Nat.{ℕ}
+use native.Mathlib.Omega.{arith}
 use mathlib.Core.Path.{_≡_, sym, ap, subst, _∙_}
+use mathlib.Core.Bool.{true}
 use mathlib.Core.List.{List}
 use Rattle.answer.specs.Outcome.{number, First}
 use Rattle.answer.specs.Table.{table}
 use Rattle.answer.specs.declared.Refusal.{Refusal}
+use Rattle.answer.specs.declared.Refusal.the-variants.{Unsupported}
 use Rattle.answer.specs.declared.Done.the-variants as Done-is
 use Rattle.answer.proofs.Promised.{refused-told, refusing, refuses, first-more, done-value}
 use Rattle.layout.specs.declared.Fields.{Fields}
@@ -16,6 +19,7 @@ use Rattle.layout.specs.declared.Place.the-variants as Place-is
 use Rattle.layout.specs.Layout.{completed, checkedOutcome, layoutFaults, recordFaults, indexFaults, sourceIndex, LayoutChecked, Indexed}
 use Rattle.pixels.specs.Render.{converted, renderFaults, Rendered}
 use Rattle.pixels.specs.Planes.{written, writeFaults, Written}
+use Rattle.capi.specs.OnLayouts.{flagged, Asked}
 
 module _ (f : Fields) {answer : Checked} (checked : LayoutChecked f answer) where
   refused-first : {kind : Refusal} → answer ≡ Checked-is.Refused kind → First (recordFaults (completed f)) (number kind)
@@ -35,3 +39,12 @@ module _ (f : Fields) {answer : Checked} (checked : LayoutChecked f answer) wher
   pub handed-on : {l : RasterLayout} {N : Type 0} (Allowed : RasterLayout → N → Type 0) (x : N) → answer ≡ Checked-is.Done l → Allowed l x → Allowed (completed f) x
   handed-on {l} Allowed x e =
       subst (λ (k : RasterLayout). Allowed k x) (sym (done-value (layoutFaults f) (completed f) l (sym checked ∙ ap checkedOutcome e)))
+
+-- a flag that is neither 0 nor 1: the step answers Unsupported, and nothing else
+module _ {s : List ℕ} {answer : Checked} (asked : Asked s answer) (flag : flagged s ≡ true) where
+  pub flag-refused : {kind : Refusal} → answer ≡ Checked-is.Refused kind → number kind ≡ 1
+  flag-refused {kind} e =
+      let is = asked .unserved flag in let same : kind ≡ Unsupported = cc in ap number same
+
+  pub flag-never-done : {l : RasterLayout} {A : Type 0} → answer ≡ Checked-is.Done l → A
+  flag-never-done e = let is = asked .unserved flag in absurd (let z : _≡_ {A = ℕ} 0 1 = cc in omega arith)

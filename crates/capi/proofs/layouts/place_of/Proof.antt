@@ -4,8 +4,8 @@ use borrow.Author.Needs.{needs}
 use mathlib.Core.Path.{refl}
 use native.Mathlib.Omega.{arith}
 use Rattle.capi.proofs.Telling.{telling}
-use Rattle.capi.proofs.index.place_of.Statement.{statement}
-use Rattle.capi.proofs.index.place_of.Tie as tie
+use Rattle.capi.proofs.layouts.place_of.Statement.{statement}
+use Rattle.capi.proofs.layouts.place_of.Tie as tie
 
 index-requires : tie.Need-index-requires
 index-requires c κs = search needs

@@ -1,0 +1,137 @@
+// The calls that take a layout, which comes in as the numbers of include/hamrisk.h's hamrisk_layout, in its order.
+use crate::status;
+use answer::ByteAt;
+use answer::Refusal;
+use layout::Checked;
+use layout::Fields;
+use layout::Place;
+use layout::RasterLayout;
+ghost use mathlib.Core.Path.{_≡_};
+ghost use Rattle.answer.specs.Outcome.{doneOutcome};
+ghost use Rattle.layout.specs.Layout.{completed, LayoutChecked, Indexed, placeOutcome};
+ghost use Rattle.pixels.specs.Render.{Rendered};
+ghost use Rattle.pixels.specs.Planes.{Written};
+ghost use Rattle.capi.specs.Told.{Told, Lent, derivedOf, derivedOutcome};
+ghost use Rattle.capi.specs.OnLayouts.{fieldsOf, flagged as flaggedOf, OnLayout, Asked, Refused};
+
+type Layout = [usize; 11];
+
+// The fields, where a flag that is not 0 counts as set.
+fn fields_of(s: &Layout) -> Fields
+    ensures { λ r. ⌜ r ≡ fieldsOf (now (s .entry)) ⌝ }
+{
+    Fields {
+        w: s[0],
+        h: s[1],
+        ch: s[2],
+        bytes: s[3],
+        slots: s[4],
+        palette: s[5] != 0,
+        separate: s[6] != 0,
+        le: s[7] != 0,
+        white: s[8] != 0,
+        alpha: s[9],
+        map: s[10],
+    }
+}
+
+// Whether a flag is neither 0 nor 1.
+fn flagged(s: &Layout) -> bool
+    ensures { λ r. ⌜ r ≡ flaggedOf (now (s .entry)) ⌝ }
+{
+    if 1 < s[5] {
+        return true;
+    }
+    if 1 < s[6] {
+        return true;
+    }
+    if 1 < s[7] {
+        return true;
+    }
+    1 < s[8]
+}
+
+// The record that is asked for.
+fn asked(s: &Layout) -> Checked
+    ensures { λ r. ⌜ Asked (now (s .entry)) r ⌝ }
+{
+    if flagged(s) {
+        return Checked::Refused(Refusal::Unsupported);
+    }
+    layout::check_layout(fields_of(s))
+}
+
+// The record's derived fields, in its order.
+fn derived_of(l: RasterLayout) -> [usize; 7]
+    ensures { λ r. ⌜ r ≡ derivedOf l ⌝ }
+{
+    [
+        l.encoded_width,
+        l.plane_channels,
+        l.planes,
+        l.plane_len,
+        l.scratch_len,
+        l.output_len,
+        l.colors,
+    ]
+}
+
+// What follows from a layout: the record's derived fields, in its order.
+#[no_mangle]
+pub extern "C" fn hamrisk_check_layout(layout: &Layout, derived: &mut [usize; 7]) -> u32
+    ensures { λ r. ⌜ OnLayout (now (layout .entry)) (λ f. Lent derivedOutcome (LayoutChecked f) r (now (derived .entry)) (now (derived .exit))) (Refused r (now (derived .entry)) (now (derived .exit))) ⌝ }
+{
+    match asked(layout) {
+        Checked::Refused(kind) => answer::number(kind),
+        Checked::Done(l) => {
+            *derived = derived_of(l);
+            0
+        }
+    }
+}
+
+// The place, of a record.
+fn place_of(l: RasterLayout, k: usize, place: &mut usize) -> u32
+    ensures { λ r. ⌜ Lent placeOutcome (Indexed l k) r (now (place .entry)) (now (place .exit)) ⌝ }
+{
+    match layout::index(l, ByteAt(k)) {
+        Place::Refused(kind) => answer::number(kind),
+        Place::Done(p) => {
+            *place = p.0;
+            0
+        }
+    }
+}
+
+// The place in the planes of byte k of the picture.
+#[no_mangle]
+pub extern "C" fn hamrisk_index(layout: &Layout, k: usize, place: &mut usize) -> u32
+    ensures { λ r. ⌜ OnLayout (now (layout .entry)) (λ f. Lent placeOutcome (Indexed (completed f) k) r (now (place .entry)) (now (place .exit))) (Refused r (now (place .entry)) (now (place .exit))) ⌝ }
+{
+    match asked(layout) {
+        Checked::Refused(kind) => answer::number(kind),
+        Checked::Done(l) => place_of(l, k, place),
+    }
+}
+
+// The picture that planes of this layout hold; `file` has the colours of a palette.
+#[no_mangle]
+pub extern "C" fn hamrisk_render(layout: &Layout, file: &[u8], raw: &[u8], out: &mut [u8]) -> u32
+    ensures { λ r. ⌜ OnLayout (now (layout .entry)) (λ f. Told doneOutcome (λ d. Rendered (completed f) (now (file .entry)) (now (raw .entry)) (now (out .entry)) d (now (out .exit))) r) (Refused r (now (out .entry)) (now (out .exit))) ⌝ }
+{
+    match asked(layout) {
+        Checked::Refused(kind) => answer::number(kind),
+        Checked::Done(l) => status(rendering::render(l, file, raw, out)),
+    }
+}
+
+// The planes whose rendering is a picture.
+#[no_mangle]
+pub extern "C" fn hamrisk_write_planes(layout: &Layout, picture: &[u8], planes: &mut [u8]) -> u32
+    ensures { λ r. ⌜ OnLayout (now (layout .entry)) (λ f. Told doneOutcome (λ d. Written (completed f) (now (picture .entry)) (now (planes .entry)) d (now (planes .exit))) r) (Refused r (now (planes .entry)) (now (planes .exit))) ⌝ }
+{
+    match asked(layout) {
+        Checked::Refused(kind) => answer::number(kind),
+        Checked::Done(l) => status(writing::write_planes(l, picture, planes)),
+    }
+}
