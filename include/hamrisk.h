@@ -9,7 +9,7 @@
  * What the proof cannot see, and the caller owes:
  * - A pointer is not null, even with length 0, and stands for as many bytes as its length says: readable and initialised for
  *   the whole call, an output's too, and writable where it is not const.
- * - `value`, `count` and `place` point to one number and `derived` to seven, aligned as their type.
+ * - `value`, `count` and `place` point to one number, `derived` to seven and `layout` to a hamrisk_layout, aligned as their type.
  * - What a call writes overlaps nothing else that it is handed: `out`, `marks` and `planes` no input, and a lent number no buffer.
  * - While the call runs nobody else writes what it reads, or touches what it writes.
  * - A bool is 0 or 1.
@@ -105,39 +105,41 @@ uint32_t hamrisk_swap_components(const uint8_t *raw, size_t raw_len, size_t widt
 uint32_t hamrisk_commit(const uint8_t *source, size_t source_len, uint8_t *out, size_t out_len);
 
 /*
- * A layout is eleven numbers:
- *   w, h      columns and rows of the picture
- *   ch, bytes channels of a pixel, and bytes of a channel, as they are rendered
- *   slots     samples in a byte of the planes: 8 in a bilevel picture, 1, 2 or 8 with a palette, else 1
- *   palette   the planes hold indices of colours
- *   separate  each channel stands in a plane of its own
- *   le        the byte order of the planes, and of the palette
- *   white     0 is white; a palette ignores it
- *   alpha     0: no alpha; 1: the last channel is alpha and the others are multiplied by it; 2: it is, and they are not
- *   map       the byte of `file` at which the palette begins: all reds, then greens, then blues, two bytes each; never refused here
- *
- * hamrisk_check_layout checks one and gives what follows from it.
- * Refuses: bytes not 1, 2 or 8, ch not 1 to 4, slots not 1, 2 or 8, or alpha above 2: 1;
+ * A picture, and how its planes hold it. palette, separate, le and white are 0 or 1.
+ */
+typedef struct hamrisk_layout {
+    size_t w, h;      /* columns and rows of the picture */
+    size_t ch, bytes; /* channels of a pixel, and bytes of a channel, as they are rendered */
+    size_t slots;     /* samples in a byte of the planes: 8 in a bilevel picture, 1, 2 or 8 with a palette, else 1 */
+    size_t palette;   /* the planes hold indices of colours */
+    size_t separate;  /* each channel stands in a plane of its own */
+    size_t le;        /* the byte order of the planes, and of the palette: 1 for least significant byte first */
+    size_t white;     /* 0 is white; a palette ignores it */
+    size_t alpha;     /* 0: none; 1: the last channel is alpha and the others are multiplied by it; 2: it is, and they are not */
+    size_t map;       /* the byte of `file` at which the palette begins: all reds, then greens, then blues, two bytes each */
+} hamrisk_layout;
+
+/*
+ * Checks a layout and gives what follows from it.
+ * Refuses: bytes not 1, 2 or 8, ch not 1 to 4, slots not 1, 2 or 8, alpha above 2, or palette, separate, le or white above 1: 1;
  *          w or h 0: 2;
  *          bytes 8 with white, palette, alpha, slots not 1, or ch neither 1 nor 3: 2;
  *          alpha with bytes not 1, ch neither 2 nor 4, or palette: 2;
  *          palette with ch not 3, bytes not 1, separate, or alpha: 2;
  *          without palette slots not 1, unless slots is 8, ch and bytes 1 and alpha 0: 2;
- *          w or h above 16384, or w * h * ch * bytes above 1073741824: 5.
+ *          w or h above 16384, or w * h * ch * bytes above 1073741824: 5. map is no reason to refuse.
  * Writes: derived[0] encoded width, the places in a row of a plane: pixels, or bytes that hold several samples;
  *         [1] plane channels, the bytes at a place; [2] planes; [3] plane length, the bytes of a plane;
  *         [4] scratch length, the bytes of all planes; [5] output length, the bytes of the picture; [6] colours of a palette.
  */
-uint32_t hamrisk_check_layout(size_t w, size_t h, size_t ch, size_t bytes, size_t slots, bool palette, bool separate, bool le,
-                              bool white, size_t alpha, size_t map, size_t *derived);
+uint32_t hamrisk_check_layout(const hamrisk_layout *layout, size_t *derived);
 
 /*
  * Which byte of the planes byte k of the picture comes from.
  * Refuses: as hamrisk_check_layout; k at or past the output length: 2.
  * Writes: *place, below the scratch length.
  */
-uint32_t hamrisk_index(size_t w, size_t h, size_t ch, size_t bytes, size_t slots, bool palette, bool separate, bool le,
-                       bool white, size_t alpha, size_t map, size_t k, size_t *place);
+uint32_t hamrisk_index(const hamrisk_layout *layout, size_t k, size_t *place);
 
 /*
  * The picture that the planes `raw` hold. `file` has the palette, and is not read without one.
@@ -145,9 +147,8 @@ uint32_t hamrisk_index(size_t w, size_t h, size_t ch, size_t bytes, size_t slots
  *          raw_len below the scratch length: 3; out_len below the output length: 4.
  * Writes: output length bytes of out.
  */
-uint32_t hamrisk_render(size_t w, size_t h, size_t ch, size_t bytes, size_t slots, bool palette, bool separate, bool le,
-                        bool white, size_t alpha, size_t map, const uint8_t *file, size_t file_len, const uint8_t *raw,
-                        size_t raw_len, uint8_t *out, size_t out_len);
+uint32_t hamrisk_render(const hamrisk_layout *layout, const uint8_t *file, size_t file_len, const uint8_t *raw, size_t raw_len,
+                        uint8_t *out, size_t out_len);
 
 /*
  * The planes whose rendering is `picture`; padding bits are 0.
@@ -155,9 +156,8 @@ uint32_t hamrisk_render(size_t w, size_t h, size_t ch, size_t bytes, size_t slot
  *          planes_len below the scratch length: 4; with slots 8 one of the output length bytes neither 0 nor 255: 2.
  * Writes: scratch length bytes of planes.
  */
-uint32_t hamrisk_write_planes(size_t w, size_t h, size_t ch, size_t bytes, size_t slots, bool palette, bool separate, bool le,
-                              bool white, size_t alpha, size_t map, const uint8_t *picture, size_t picture_len,
-                              uint8_t *planes, size_t planes_len);
+uint32_t hamrisk_write_planes(const hamrisk_layout *layout, const uint8_t *picture, size_t picture_len, uint8_t *planes,
+                              size_t planes_len);
 
 #ifdef __cplusplus
 }

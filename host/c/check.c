@@ -116,32 +116,36 @@ static void pictures(void) {
     size_t derived[7] = {77, 77, 77, 77, 77, 77, 77};
     size_t place = 77;
 
+    const hamrisk_layout apart = {.w = 2, .h = 1, .ch = 3, .bytes = 1, .slots = 1, .separate = 1};
+    const hamrisk_layout word = {.w = 1, .h = 1, .ch = 1, .bytes = 2, .slots = 1, .le = 1};
+    const hamrisk_layout indexed = {.w = 1, .h = 1, .ch = 3, .bytes = 1, .slots = 8, .palette = 1, .map = SIZE_MAX};
+    const hamrisk_layout bilevel = {.w = 9, .h = 2, .ch = 1, .bytes = 1, .slots = 8};
+    const hamrisk_layout dot = {.w = 1, .h = 1, .ch = 1, .bytes = 1, .slots = 8};
+    const hamrisk_layout wide = {.w = 16385, .h = 1, .ch = 1, .bytes = 1, .slots = 1};
+    const hamrisk_layout flag = {.w = 0, .h = 1, .ch = 1, .bytes = 1, .slots = 1, .white = 2};
+
     clear(out);
-    check("I", hamrisk_render(2, 1, 3, 1, 1, false, true, false, false, 0, 0, planes, 0, planes, 6, out, ROOM) == HAMRISK_DONE
-                   && holds(out, picture, 6));
+    check("I", hamrisk_render(&apart, planes, 0, planes, 6, out, ROOM) == HAMRISK_DONE && holds(out, picture, 6));
     clear(out);
-    check("I, written", hamrisk_write_planes(2, 1, 3, 1, 1, false, true, false, false, 0, 0, picture, 6, out, 6) == HAMRISK_DONE
-                            && holds(out, planes, 6));
+    check("I, written", hamrisk_write_planes(&apart, picture, 6, out, 6) == HAMRISK_DONE && holds(out, planes, 6));
     clear(out);
-    check("J", hamrisk_render(1, 1, 1, 2, 1, false, false, true, false, 0, 0, planes, 0, j_raw, 2, out, 2) == HAMRISK_DONE
-                   && holds(out, j_out, 2));
+    check("J", hamrisk_render(&word, planes, 0, j_raw, 2, out, 2) == HAMRISK_DONE && holds(out, j_out, 2));
 
     clear(out);
     check("a palette past the file",
-          hamrisk_render(1, 1, 3, 1, 8, true, false, false, false, 0, SIZE_MAX, planes, 6, planes, 6, out, ROOM)
-                  == HAMRISK_TRUNCATED
-              && holds(out, NULL, 0));
-    check("a bilevel 7",
-          hamrisk_write_planes(1, 1, 1, 1, 8, false, false, false, false, 0, 0, grey, 1, out, 1) == HAMRISK_INVALID
-              && holds(out, NULL, 0));
-    check("w 16385", hamrisk_check_layout(16385, 1, 1, 1, 1, false, false, false, false, 0, 0, derived) == HAMRISK_LIMIT
-                         && derived[0] == 77 && derived[6] == 77);
-    check("w 9, bilevel", hamrisk_check_layout(9, 2, 1, 1, 8, false, false, false, false, 0, 0, derived) == HAMRISK_DONE
-                              && derived[0] == 2 && derived[4] == 4 && derived[5] == 18 && derived[6] == 2);
-    check("past the picture",
-          hamrisk_index(2, 1, 3, 1, 1, false, true, false, false, 0, 0, 6, &place) == HAMRISK_INVALID && place == 77);
-    check("its second byte",
-          hamrisk_index(2, 1, 3, 1, 1, false, true, false, false, 0, 0, 1, &place) == HAMRISK_DONE && place == 2);
+          hamrisk_render(&indexed, planes, 6, planes, 6, out, ROOM) == HAMRISK_TRUNCATED && holds(out, NULL, 0));
+    check("a bilevel 7", hamrisk_write_planes(&dot, grey, 1, out, 1) == HAMRISK_INVALID && holds(out, NULL, 0));
+    check("a flag of 2, before w 0", hamrisk_render(&flag, planes, 6, planes, 6, out, ROOM) == HAMRISK_UNSUPPORTED
+                                         && hamrisk_write_planes(&flag, grey, 1, out, 1) == HAMRISK_UNSUPPORTED
+                                         && hamrisk_index(&flag, 0, &place) == HAMRISK_UNSUPPORTED
+                                         && hamrisk_check_layout(&flag, derived) == HAMRISK_UNSUPPORTED
+                                         && holds(out, NULL, 0) && place == 77 && derived[0] == 77);
+    check("w 16385",
+          hamrisk_check_layout(&wide, derived) == HAMRISK_LIMIT && derived[0] == 77 && derived[6] == 77);
+    check("w 9, bilevel", hamrisk_check_layout(&bilevel, derived) == HAMRISK_DONE && derived[0] == 2 && derived[4] == 4
+                              && derived[5] == 18 && derived[6] == 2);
+    check("past the picture", hamrisk_index(&apart, 6, &place) == HAMRISK_INVALID && place == 77);
+    check("its second byte", hamrisk_index(&apart, 1, &place) == HAMRISK_DONE && place == 2);
 }
 
 int main(void) {

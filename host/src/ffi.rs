@@ -36,26 +36,11 @@ macro_rules! call_over_strip {
     };
 }
 
-/// Declares functions of the archive that take a layout, its eleven numbers first.
-macro_rules! declare_over_layout {
-    ($($name:ident($($arg:ident: $kind:ty),*);)*) => {
-        extern "C" {
-            $(fn $name(
-                w: usize, h: usize, ch: usize, bytes: usize, slots: usize, palette: bool, separate: bool, le: bool,
-                white: bool, alpha: usize, map: usize, $($arg: $kind),*
-            ) -> u32;)*
-        }
-    };
-}
-
-/// Calls one of them.
-macro_rules! call_over_layout {
-    ($name:ident($l:expr, $($arg:expr),*)) => {
-        $name(
-            $l.w, $l.h, $l.ch, $l.bytes, $l.slots, $l.palette, $l.separate, is_little($l.order),
-            $l.white, $l.alpha, $l.map, $($arg),*
-        )
-    };
+/// A layout as the archive reads it: the numbers of the header's `hamrisk_layout`, in its order.
+fn numbers(l: &Layout) -> [usize; 11] {
+    let order = is_little(l.order).into();
+    let (palette, separate, white) = (l.palette.into(), l.separate.into(), l.white.into());
+    [l.w, l.h, l.ch, l.bytes, l.slots, palette, separate, order, white, l.alpha, l.map]
 }
 
 extern "C" {
@@ -76,18 +61,29 @@ extern "C" {
     fn hamrisk_reverse_bits(s: *mut u8, s_len: usize);
     fn hamrisk_swap_components(raw: *const u8, raw_len: usize, width: usize, out: *mut u8, out_len: usize) -> u32;
     fn hamrisk_commit(source: *const u8, source_len: usize, out: *mut u8, out_len: usize) -> u32;
+    fn hamrisk_check_layout(layout: *const usize, derived: *mut usize) -> u32;
+    fn hamrisk_index(layout: *const usize, k: usize, place: *mut usize) -> u32;
+    fn hamrisk_render(
+        layout: *const usize,
+        file: *const u8,
+        file_len: usize,
+        raw: *const u8,
+        raw_len: usize,
+        out: *mut u8,
+        out_len: usize,
+    ) -> u32;
+    fn hamrisk_write_planes(
+        layout: *const usize,
+        picture: *const u8,
+        picture_len: usize,
+        planes: *mut u8,
+        planes_len: usize,
+    ) -> u32;
 }
 
 declare_over_strip! {
     hamrisk_convert;
     hamrisk_forward;
-}
-
-declare_over_layout! {
-    hamrisk_check_layout(derived: *mut usize);
-    hamrisk_index(k: usize, place: *mut usize);
-    hamrisk_render(file: *const u8, file_len: usize, raw: *const u8, raw_len: usize, out: *mut u8, out_len: usize);
-    hamrisk_write_planes(picture: *const u8, picture_len: usize, planes: *mut u8, planes_len: usize);
 }
 
 /// What the archive's answer means.
@@ -297,8 +293,8 @@ pub fn commit(source: &[u8], out: &mut [u8]) -> Result<(), Refusal> {
 /// ```
 pub fn check_layout(layout: &Layout) -> Result<Derived, Refusal> {
     let mut derived = [0; 7];
-    // SAFETY: the pointer is that of a local array of seven numbers, as the header asks.
-    done(unsafe { call_over_layout!(hamrisk_check_layout(layout, derived.as_mut_ptr())) })?;
+    // SAFETY: the pointers are those of a layout and of a local array of seven numbers, as the header asks.
+    done(unsafe { hamrisk_check_layout(numbers(layout).as_ptr(), derived.as_mut_ptr()) })?;
     let [encoded_width, plane_channels, planes, plane_length, scratch_length, output_length, colours] = derived;
     Ok(Derived { encoded_width, plane_channels, planes, plane_length, scratch_length, output_length, colours })
 }
@@ -315,8 +311,8 @@ pub fn check_layout(layout: &Layout) -> Result<Derived, Refusal> {
 /// ```
 pub fn index(layout: &Layout, k: ByteAt) -> Result<ByteAt, Refusal> {
     let mut place = 0;
-    // SAFETY: the pointer is that of a local number, as the header asks.
-    done(unsafe { call_over_layout!(hamrisk_index(layout, k.0, &mut place)) })?;
+    // SAFETY: the pointers are those of a layout and of a local number, as the header asks.
+    done(unsafe { hamrisk_index(numbers(layout).as_ptr(), k.0, &mut place) })?;
     Ok(ByteAt(place))
 }
 
@@ -336,17 +332,17 @@ pub fn index(layout: &Layout, k: ByteAt) -> Result<ByteAt, Refusal> {
 /// # Ok::<(), Refusal>(())
 /// ```
 pub fn render(layout: &Layout, file: &[u8], raw: &[u8], out: &mut [u8]) -> Result<(), Refusal> {
-    // SAFETY: the pointers are three slices', and the one that is written overlaps no other, as the header asks.
+    // SAFETY: the pointers are a layout's and three slices', and the one that is written overlaps no other, as the header asks.
     done(unsafe {
-        call_over_layout!(hamrisk_render(
-            layout,
+        hamrisk_render(
+            numbers(layout).as_ptr(),
             file.as_ptr(),
             file.len(),
             raw.as_ptr(),
             raw.len(),
             out.as_mut_ptr(),
-            out.len()
-        ))
+            out.len(),
+        )
     })
 }
 
@@ -365,14 +361,14 @@ pub fn render(layout: &Layout, file: &[u8], raw: &[u8], out: &mut [u8]) -> Resul
 /// # Ok::<(), Refusal>(())
 /// ```
 pub fn write_planes(layout: &Layout, picture: &[u8], planes: &mut [u8]) -> Result<(), Refusal> {
-    // SAFETY: the pointers are two slices', which do not overlap, as the header asks.
+    // SAFETY: the pointers are a layout's and two slices', which do not overlap, as the header asks.
     done(unsafe {
-        call_over_layout!(hamrisk_write_planes(
-            layout,
+        hamrisk_write_planes(
+            numbers(layout).as_ptr(),
             picture.as_ptr(),
             picture.len(),
             planes.as_mut_ptr(),
-            planes.len()
-        ))
+            planes.len(),
+        )
     })
 }

@@ -15,6 +15,6 @@ fn the_c_program_finds_no_difference() {
         .expect("gcc is on the path");
     assert!(gcc.status.success(), "{}", String::from_utf8_lossy(&gcc.stderr));
     let run = Command::new(&program).output().expect("the program runs");
-    assert_eq!(String::from_utf8_lossy(&run.stdout), "28 checks, 0 differ\n");
+    assert_eq!(String::from_utf8_lossy(&run.stdout), "29 checks, 0 differ\n");
     assert!(run.status.success());
 }

@@ -33,7 +33,7 @@ fn marked(line: &[u8], damage: &[u8], out: &mut [u8]) -> Got {
 }
 
 // marks DAMAGE ROW CHANNELS WIDTH predicted|plain ROOM = NUMBER COUNT WRITTEN
-pub fn marks(line: &[u8]) -> bool {
+pub(crate) fn marks(line: &[u8]) -> bool {
     let mut damage = [0u8; 64];
     let n = text::bytes(token(line, 1), &mut damage);
     let mut out = [170u8; 64];

@@ -35,18 +35,8 @@ fn fields(line: &[u8]) -> Fields {
 fn record(line: &[u8], at: usize) -> RasterLayout
     requires { ⌜ at ≤ 16 ⌝ }
 {
-    let f = fields(line);
     RasterLayout {
-        w: f.w,
-        h: f.h,
-        ch: f.ch,
-        bytes: f.bytes,
-        slots: f.slots,
-        palette: f.palette,
-        separate: f.separate,
-        le: f.le,
-        white: f.white,
-        alpha: f.alpha,
+        fields: fields(line),
         encoded_width: size_at(line, at),
         plane_channels: size_at(line, at + 1),
         planes: size_at(line, at + 2),
@@ -54,45 +44,28 @@ fn record(line: &[u8], at: usize) -> RasterLayout
         scratch_len: size_at(line, at + 4),
         output_len: size_at(line, at + 5),
         colors: size_at(line, at + 6),
-        map: f.map,
     }
-}
-
-fn checked(f: Fields) -> Checked {
-    layout::check_layout(
-        f.w,
-        f.h,
-        f.ch,
-        f.bytes,
-        f.slots,
-        f.palette,
-        f.separate,
-        f.le,
-        f.white,
-        f.alpha,
-        f.map,
-    )
 }
 
 // The record of a line. One that is by hand, and one that is refused, goes on as it stands, for the call itself to refuse.
-pub fn layout_of(line: &[u8], by_hand: bool) -> RasterLayout {
+pub(crate) fn layout_of(line: &[u8], by_hand: bool) -> RasterLayout {
     if by_hand {
         return record(line, 9);
     }
-    match checked(fields(line)) {
+    match layout::check_layout(fields(line)) {
         Checked::Done(l) => l,
         Checked::Refused(_) => record(line, 9),
     }
 }
 
 // The first word after the layout.
-pub fn after_layout(by_hand: bool) -> usize
+pub(crate) fn after_layout(by_hand: bool) -> usize
     ensures { λ r. ⌜ r ≤ 16 ⌝ }
 {
     if by_hand { 16 } else { 9 }
 }
 
-fn same_numbers(a: RasterLayout, b: RasterLayout) -> bool {
+fn same_numbers(a: Fields, b: Fields) -> bool {
     if a.w != b.w {
         return false;
     }
@@ -114,7 +87,7 @@ fn same_numbers(a: RasterLayout, b: RasterLayout) -> bool {
     a.map == b.map
 }
 
-fn same_flags(a: RasterLayout, b: RasterLayout) -> bool {
+fn same_flags(a: Fields, b: Fields) -> bool {
     if a.palette != b.palette {
         return false;
     }
@@ -150,28 +123,28 @@ fn same_derived(a: RasterLayout, b: RasterLayout) -> bool {
 }
 
 fn same(a: RasterLayout, b: RasterLayout) -> bool {
-    if !same_numbers(a, b) {
+    if !same_numbers(a.fields, b.fields) {
         return false;
     }
-    same_flags(a, b) && same_derived(a, b)
+    same_flags(a.fields, b.fields) && same_derived(a, b)
 }
 
 // check_layout LAYOUT = NUMBER DERIVED
-pub fn check_layout(line: &[u8]) -> bool {
+pub(crate) fn check_layout(line: &[u8]) -> bool {
     let number = text::number(token(line, 10));
-    match checked(fields(line)) {
+    match layout::check_layout(fields(line)) {
         Checked::Done(l) => number == 0 && same(l, record(line, 11)),
         Checked::Refused(k) => number == answer::number(k) as u64,
     }
 }
 
 // check_record LAYOUT DERIVED = NUMBER
-pub fn check_record(line: &[u8]) -> bool {
+pub(crate) fn check_record(line: &[u8]) -> bool {
     outcome(layout::check_record(record(line, 9))) == text::number(token(line, 17))
 }
 
 // index LAYOUT K = NUMBER PLACE, and index_record LAYOUT DERIVED K = NUMBER PLACE
-pub fn index(line: &[u8], by_hand: bool) -> bool {
+pub(crate) fn index(line: &[u8], by_hand: bool) -> bool {
     let at = after_layout(by_hand);
     let k = ByteAt(size_at(line, at));
     let number = text::number(token(line, at + 2));

@@ -3,7 +3,7 @@ use crate::text;
 use answer::Done;
 
 // Document 01's number of an answer, 0 for done.
-pub fn outcome(d: Done) -> u64 {
+pub(crate) fn outcome(d: Done) -> u64 {
     match d {
         Done::Done => 0,
         Done::Refused(k) => answer::number(k) as u64,
@@ -11,7 +11,7 @@ pub fn outcome(d: Done) -> u64 {
 }
 
 // The first n elements, or all where there are fewer.
-pub fn front(s: &[u8], n: usize) -> &[u8] {
+pub(crate) fn front(s: &[u8], n: usize) -> &[u8] {
     if s.len() < n {
         return s;
     }
@@ -19,7 +19,7 @@ pub fn front(s: &[u8], n: usize) -> &[u8] {
     &s[start..n]
 }
 
-pub fn front_mut(s: &mut [u8], n: usize) -> &mut [u8] {
+pub(crate) fn front_mut(s: &mut [u8], n: usize) -> &mut [u8] {
     if s.len() < n {
         return s;
     }
@@ -28,7 +28,7 @@ pub fn front_mut(s: &mut [u8], n: usize) -> &mut [u8] {
 }
 
 // Whether a buffer holds these bytes at its front and 170 after them.
-pub fn holds(buffer: &[u8; 64], list: &[u8]) -> bool {
+pub(crate) fn holds(buffer: &[u8; 64], list: &[u8]) -> bool {
     let mut expected = [170u8; 64];
     text::bytes(list, &mut expected);
     same(buffer, &expected)

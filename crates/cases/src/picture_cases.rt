@@ -17,7 +17,7 @@ fn rendered(l: RasterLayout, file: &[u8], raw_word: &[u8], out: &mut [u8]) -> u6
 }
 
 // render LAYOUT FILE RAW ROOM = NUMBER WRITTEN; the file has room for the 1536 bytes of a map of 256 colours
-pub fn render(line: &[u8], by_hand: bool) -> bool {
+pub(crate) fn render(line: &[u8], by_hand: bool) -> bool {
     let at = after_layout(by_hand);
     let mut file = [0u8; 1600];
     let n = text::bytes(token(line, at), &mut file);
@@ -33,7 +33,7 @@ pub fn render(line: &[u8], by_hand: bool) -> bool {
 }
 
 // write_planes LAYOUT PICTURE ROOM = NUMBER WRITTEN
-pub fn write_planes(line: &[u8], by_hand: bool) -> bool {
+pub(crate) fn write_planes(line: &[u8], by_hand: bool) -> bool {
     let at = after_layout(by_hand);
     let mut picture = [0u8; 64];
     let n = text::bytes(token(line, at), &mut picture);

@@ -6,7 +6,7 @@ use crate::text;
 use crate::text::token;
 
 // check_strip BYTES ROW CHANNELS WIDTH = NUMBER
-pub fn check_strip(line: &[u8]) -> bool {
+pub(crate) fn check_strip(line: &[u8]) -> bool {
     let bytes = text::size(token(line, 1));
     let row = text::size(token(line, 2));
     let channels = text::size(token(line, 3));
@@ -15,7 +15,7 @@ pub fn check_strip(line: &[u8]) -> bool {
 }
 
 // convert BYTES ROW CHANNELS WIDTH le|be predicted|plain le|be ROOM = NUMBER WRITTEN, and forward likewise
-pub fn transform(line: &[u8], forward: bool) -> bool {
+pub(crate) fn transform(line: &[u8], forward: bool) -> bool {
     let mut raw = [0u8; 64];
     let n = text::bytes(token(line, 1), &mut raw);
     let mut out = [170u8; 64];
@@ -43,7 +43,7 @@ fn transformed(line: &[u8], forward: bool, raw: &[u8], out: &mut [u8]) -> u64 {
 }
 
 // reorder BYTES WIDTH le|be le|be ROOM = NUMBER WRITTEN
-pub fn reorder(line: &[u8]) -> bool {
+pub(crate) fn reorder(line: &[u8]) -> bool {
     let mut raw = [0u8; 64];
     let n = text::bytes(token(line, 1), &mut raw);
     let mut out = [170u8; 64];

@@ -7,12 +7,12 @@ pub struct Tally {
 }
 
 impl Tally {
-    pub fn new() -> Self {
+    pub(crate) fn new() -> Self {
         Tally { run: 0, differ: 0 }
     }
 
     // One case more, which is printed where it did not hold.
-    pub fn saw(self, case: &[u8], held: bool) -> Self {
+    pub(crate) fn saw(self, case: &[u8], held: bool) -> Self {
         let run = std::num::wrapping_add_u64(self.run, 1);
         if held {
             return Tally {
@@ -29,7 +29,7 @@ impl Tally {
         }
     }
 
-    pub fn print(self) {
+    pub(crate) fn print(self) {
         io::print_decimal(STDOUT_FILENO, self.run);
         io::write_all(STDOUT_FILENO, b" cases, ");
         io::print_decimal(STDOUT_FILENO, self.differ);

@@ -3,7 +3,7 @@ ghost use Prim.Native.Nat.{_≤_};
 ghost use lib.ListN.{length};
 
 // The first place from `from` on whose byte equals b, or, with `equal` false, differs from it; else the length.
-pub fn find(s: &[u8], from: usize, b: u8, equal: bool) -> usize
+pub(crate) fn find(s: &[u8], from: usize, b: u8, equal: bool) -> usize
     requires { ⌜ from ≤ length (now s) ⌝ }
     ensures { λ r. ⌜ (from ≤ r) × (r ≤ length (now (s .entry))) ⌝ }
 {
@@ -18,7 +18,7 @@ pub fn find(s: &[u8], from: usize, b: u8, equal: bool) -> usize
 }
 
 // Word k of a line, from 0; empty past the last.
-pub fn token(line: &[u8], k: usize) -> &[u8] {
+pub(crate) fn token(line: &[u8], k: usize) -> &[u8] {
     let mut from = find(line, 0, b' ', false);
     let mut i: usize = 0;
     while i < k {
@@ -41,7 +41,7 @@ fn digit(b: u8) -> u64 {
 }
 
 // A decimal number below 2^64.
-pub fn number(s: &[u8]) -> u64 {
+pub(crate) fn number(s: &[u8]) -> u64 {
     let mut v: u64 = 0;
     let mut i: usize = 0;
     while i < s.len() {
@@ -53,12 +53,12 @@ pub fn number(s: &[u8]) -> u64 {
     v
 }
 
-pub fn size(s: &[u8]) -> usize {
+pub(crate) fn size(s: &[u8]) -> usize {
     number(s) as usize
 }
 
 // Word k of a line as a number.
-pub fn size_at(line: &[u8], k: usize) -> usize {
+pub(crate) fn size_at(line: &[u8], k: usize) -> usize {
     size(token(line, k))
 }
 
@@ -82,7 +82,7 @@ fn nibble(b: u8) -> u8
 }
 
 // Puts bytes written as pairs of hexadecimal digits at the front of a buffer, as many as fit, and answers how many.
-pub fn bytes(s: &[u8], out: &mut [u8]) -> usize
+pub(crate) fn bytes(s: &[u8], out: &mut [u8]) -> usize
     ensures { λ r. ⌜ r ≤ length (now (out .exit)) ⌝ }
 {
     let pairs = s.len() / 2;

@@ -6,7 +6,7 @@ use crate::text;
 use crate::text::token;
 
 // swap_components BYTES WIDTH ROOM = NUMBER WRITTEN
-pub fn swap_components(line: &[u8]) -> bool {
+pub(crate) fn swap_components(line: &[u8]) -> bool {
     let mut raw = [0u8; 64];
     let n = text::bytes(token(line, 1), &mut raw);
     let mut out = [170u8; 64];
@@ -20,7 +20,7 @@ pub fn swap_components(line: &[u8]) -> bool {
 }
 
 // reverse_bits BYTES ROOM = WRITTEN
-pub fn reverse_bits(line: &[u8]) -> bool {
+pub(crate) fn reverse_bits(line: &[u8]) -> bool {
     let mut s = [170u8; 64];
     text::bytes(token(line, 1), &mut s);
     let room = text::size(token(line, 2));
@@ -29,7 +29,7 @@ pub fn reverse_bits(line: &[u8]) -> bool {
 }
 
 // commit_uninit BYTES ROOM = NUMBER WRITTEN
-pub fn commit_uninit(line: &[u8]) -> bool {
+pub(crate) fn commit_uninit(line: &[u8]) -> bool {
     let mut source = [0u8; 64];
     let n = text::bytes(token(line, 1), &mut source);
     let mut out = [170u8; 64];

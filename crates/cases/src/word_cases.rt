@@ -61,7 +61,7 @@ fn of_place(p: Place) -> Got {
 }
 
 // read_word BYTES PLACE WIDTH le|be = NUMBER VALUE
-pub fn read_word(line: &[u8]) -> bool {
+pub(crate) fn read_word(line: &[u8]) -> bool {
     let mut space = [0u8; 64];
     let n = text::bytes(token(line, 1), &mut space);
     let at = ByteAt(text::size(token(line, 2)));
@@ -71,7 +71,7 @@ pub fn read_word(line: &[u8]) -> bool {
 }
 
 // load BYTES SAMPLE narrow|wide le|be = NUMBER VALUE
-pub fn load(line: &[u8]) -> bool {
+pub(crate) fn load(line: &[u8]) -> bool {
     let mut space = [0u8; 64];
     let n = text::bytes(token(line, 1), &mut space);
     let i = SampleAt(text::size(token(line, 2)));
@@ -82,7 +82,7 @@ pub fn load(line: &[u8]) -> bool {
 }
 
 // byte_place SAMPLE WIDTH LENGTH bytes = NUMBER PLACE
-pub fn byte_place(line: &[u8]) -> bool {
+pub(crate) fn byte_place(line: &[u8]) -> bool {
     let i = SampleAt(text::size(token(line, 1)));
     let got = of_place(words::byte_place(
         i,

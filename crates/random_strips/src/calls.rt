@@ -108,6 +108,6 @@ pub struct Answer {
     pub value: usize,
 }
 
-pub fn is_picture(call: usize) -> bool {
+pub(crate) fn is_picture(call: usize) -> bool {
     CHECK_LAYOUT <= call
 }

@@ -3,11 +3,11 @@ use crate::calls::*;
 use crate::whole::*;
 use libc::STDOUT_FILENO;
 
-pub fn say(text: &[u8]) {
+pub(crate) fn say(text: &[u8]) {
     io::write_all(STDOUT_FILENO, text);
 }
 
-pub fn say_number(name: &[u8], v: usize) {
+pub(crate) fn say_number(name: &[u8], v: usize) {
     say(name);
     io::print_decimal(STDOUT_FILENO, v as u64);
 }
@@ -69,7 +69,7 @@ fn say_numbers(call: usize, p: &[usize]) {
 }
 
 // What a call was given.
-pub fn say_input(t: usize, p: &[usize], input: &[u8], file: &[u8]) {
+pub(crate) fn say_input(t: usize, p: &[usize], input: &[u8], file: &[u8]) {
     let call = remainder(t, CALLS);
     say_call(call);
     say_number(b" differs in trial ", t);
@@ -82,7 +82,7 @@ pub fn say_input(t: usize, p: &[usize], input: &[u8], file: &[u8]) {
 }
 
 // What it answered, and the buffer lent to it, with what comes after.
-pub fn say_answer(who: &[u8], a: Answer, out: &[u8]) {
+pub(crate) fn say_answer(who: &[u8], a: Answer, out: &[u8]) {
     say_number(who, a.number);
     say_number(b", value ", a.value);
     say(b", bytes");

@@ -47,7 +47,7 @@ fn choose_one(call: usize, t: usize, i: usize, p: &mut [usize]) {
 }
 
 // The numbers of a call, in order: each rests on those before it.
-pub fn choose(call: usize, t: usize, p: &mut [usize]) {
+pub(crate) fn choose(call: usize, t: usize, p: &mut [usize]) {
     let mut i: usize = 0;
     while i < NUMBERS {
         choose_one(call, t, i, p);
@@ -56,7 +56,7 @@ pub fn choose(call: usize, t: usize, p: &mut [usize]) {
 }
 
 // One derived field made wrong by hand, now and then, when all that rests on it is chosen.
-pub fn spoil_derived(call: usize, t: usize, p: &mut [usize]) {
+pub(crate) fn spoil_derived(call: usize, t: usize, p: &mut [usize]) {
     let i = plus(ENCODED_WIDTH, pick(t, 760, 7));
     if CHECK_LAYOUT < call && once_in(t, 761, 6) {
         let v = edge(t, 762, at(p, i));
@@ -79,13 +79,13 @@ fn rare(call: usize, t: usize, p: &[usize]) -> usize {
 }
 
 // The bytes that a call is given.
-pub fn fill_input(call: usize, t: usize, p: &[usize], s: &mut [u8]) {
+pub(crate) fn fill_input(call: usize, t: usize, p: &[usize], s: &mut [u8]) {
     let rare = rare(call, t, p);
     fill(s, t, 1000, rare, either(call == MARKS, 0, 255));
 }
 
 // The file part with a palette's colours; other pictures look at none.
-pub fn fill_file(t: usize, p: &[usize], s: &mut [u8]) {
+pub(crate) fn fill_file(t: usize, p: &[usize], s: &mut [u8]) {
     let n = either(on(p, PALETTE), at(p, FILE), 0);
     fill(front_mut(s, n), t, 2000, 1, 0);
 }

@@ -28,7 +28,7 @@ fn plane_len(p: &[usize]) -> usize {
 }
 
 // What derived field i is, from the fields before it.
-pub fn derived(p: &[usize], i: usize) -> usize {
+pub(crate) fn derived(p: &[usize], i: usize) -> usize {
     match i {
         ENCODED_WIDTH => encoded_width(at(p, W), at(p, SLOTS)),
         PLANE_CHANNELS => plane_channels(p),
@@ -100,7 +100,7 @@ fn beyond(p: &[usize]) -> bool {
 }
 
 // The number of a layout's first fault, 0 for none.
-pub fn layout_fault(p: &[usize]) -> usize {
+pub(crate) fn layout_fault(p: &[usize]) -> usize {
     either(
         unsupported(p),
         1,
@@ -109,7 +109,7 @@ pub fn layout_fault(p: &[usize]) -> usize {
 }
 
 // The number of a record's first fault, 0 for none.
-pub fn record_fault(p: &[usize]) -> usize {
+pub(crate) fn record_fault(p: &[usize]) -> usize {
     let first = layout_fault(p);
     either(first == 0 && !agrees(p), 2, first)
 }
@@ -119,11 +119,11 @@ fn row(p: &[usize], k: usize) -> usize {
     quotient(k, times(at(p, W), times(at(p, CH), at(p, BYTES))))
 }
 
-pub fn column(p: &[usize], k: usize) -> usize {
+pub(crate) fn column(p: &[usize], k: usize) -> usize {
     remainder(quotient(k, times(at(p, CH), at(p, BYTES))), at(p, W))
 }
 
-pub fn channel(p: &[usize], k: usize) -> usize {
+pub(crate) fn channel(p: &[usize], k: usize) -> usize {
     remainder(quotient(k, at(p, BYTES)), at(p, CH))
 }
 
@@ -135,7 +135,7 @@ fn stored(p: &[usize], k: usize) -> usize {
 }
 
 // Whether rows hold several samples to a byte, or places of a palette.
-pub fn packed(p: &[usize]) -> bool {
+pub(crate) fn packed(p: &[usize]) -> bool {
     on(p, PALETTE) || at(p, SLOTS) == 8
 }
 
@@ -150,7 +150,7 @@ fn whole_source(p: &[usize], k: usize) -> usize {
 }
 
 // The place in the planes of byte k of the picture.
-pub fn source(p: &[usize], k: usize) -> usize {
+pub(crate) fn source(p: &[usize], k: usize) -> usize {
     if packed(p) {
         plus(
             times(row(p, k), at(p, ENCODED_WIDTH)),

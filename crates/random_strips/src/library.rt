@@ -7,6 +7,7 @@ use answer::Refusal;
 use answer::SampleAt;
 use damage::Counted;
 use layout::Checked;
+use layout::Fields;
 use layout::RasterLayout;
 use words::Loaded;
 use words::Word;
@@ -64,9 +65,9 @@ fn of_counted(c: Counted) -> Answer {
     }
 }
 
-// The library's record of a picture's numbers.
-fn record(p: &[usize]) -> RasterLayout {
-    RasterLayout {
+// What a picture's numbers say, and the library's record of them.
+fn fields(p: &[usize]) -> Fields {
+    Fields {
         w: at(p, W),
         h: at(p, H),
         ch: at(p, CH),
@@ -77,6 +78,13 @@ fn record(p: &[usize]) -> RasterLayout {
         le: on(p, PICTURE_LE),
         white: on(p, WHITE),
         alpha: at(p, ALPHA),
+        map: at(p, MAP),
+    }
+}
+
+fn record(p: &[usize]) -> RasterLayout {
+    RasterLayout {
+        fields: fields(p),
         encoded_width: at(p, ENCODED_WIDTH),
         plane_channels: at(p, PLANE_CHANNELS),
         planes: at(p, PLANES),
@@ -84,24 +92,23 @@ fn record(p: &[usize]) -> RasterLayout {
         scratch_len: at(p, SCRATCH_LEN),
         output_len: at(p, OUTPUT_LEN),
         colors: at(p, COLORS),
-        map: at(p, MAP),
     }
 }
 
 // A picture's number i, of a record.
 fn field(l: RasterLayout, i: usize) -> usize {
     match i {
-        PALETTE => l.palette as usize,
-        SEPARATE => l.separate as usize,
-        PICTURE_LE => l.le as usize,
-        WHITE => l.white as usize,
-        BYTES => l.bytes,
-        SLOTS => l.slots,
-        ALPHA => l.alpha,
-        CH => l.ch,
-        W => l.w,
-        H => l.h,
-        MAP => l.map,
+        PALETTE => l.fields.palette as usize,
+        SEPARATE => l.fields.separate as usize,
+        PICTURE_LE => l.fields.le as usize,
+        WHITE => l.fields.white as usize,
+        BYTES => l.fields.bytes,
+        SLOTS => l.fields.slots,
+        ALPHA => l.fields.alpha,
+        CH => l.fields.ch,
+        W => l.fields.w,
+        H => l.fields.h,
+        MAP => l.fields.map,
         ENCODED_WIDTH => l.encoded_width,
         PLANE_CHANNELS => l.plane_channels,
         PLANES => l.planes,
@@ -131,20 +138,7 @@ fn of_checked(c: Checked, p: &[usize]) -> Answer {
 }
 
 fn check_layout(p: &[usize]) -> Answer {
-    let checked = layout::check_layout(
-        at(p, W),
-        at(p, H),
-        at(p, CH),
-        at(p, BYTES),
-        at(p, SLOTS),
-        on(p, PALETTE),
-        on(p, SEPARATE),
-        on(p, PICTURE_LE),
-        on(p, WHITE),
-        at(p, ALPHA),
-        at(p, MAP),
-    );
-    of_checked(checked, p)
+    of_checked(layout::check_layout(fields(p)), p)
 }
 
 fn convert(call: usize, p: &[usize], input: &[u8], out: &mut [u8]) -> Done {
@@ -216,7 +210,13 @@ fn moved(call: usize, p: &[usize], input: &[u8], file: &[u8], out: &mut [u8]) ->
     }
 }
 
-pub fn answer(call: usize, p: &[usize], input: &[u8], file: &[u8], out: &mut [u8]) -> Answer {
+pub(crate) fn answer(
+    call: usize,
+    p: &[usize],
+    input: &[u8],
+    file: &[u8],
+    out: &mut [u8],
+) -> Answer {
     match call {
         MARKS => marks(p, input, out),
         CONVERT | FORWARD | REORDER | SWAP | COMMIT | REVERSE | RENDER | WRITE_PLANES => {

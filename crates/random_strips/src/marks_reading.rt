@@ -13,7 +13,7 @@ fn changes(p: &[usize], n: usize, k: usize) -> bool {
 
 // Whether a damaged byte can change sample n. Every byte adds its own value times a power of 256 to a sample, or nothing, whatever the
 // others are: so one value tried for one byte at a time shows each byte that can change it.
-pub fn mark(damage: &[u8], p: &[usize], n: usize) -> usize {
+pub(crate) fn mark(damage: &[u8], p: &[usize], n: usize) -> usize {
     let end = damage.len();
     let mut found: usize = 0;
     let mut k: usize = 0;
@@ -27,7 +27,7 @@ pub fn mark(damage: &[u8], p: &[usize], n: usize) -> usize {
 }
 
 // How many samples are marked.
-pub fn count(damage: &[u8], p: &[usize]) -> usize {
+pub(crate) fn count(damage: &[u8], p: &[usize]) -> usize {
     let samples = quotient(damage.len(), at(p, WIDTH));
     let mut count: usize = 0;
     let mut n: usize = 0;

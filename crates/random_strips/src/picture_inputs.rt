@@ -98,7 +98,7 @@ fn some_place(t: usize, length: usize) -> usize {
 }
 
 // Number i of such a call, where those before it stand in p.
-pub fn number(call: usize, t: usize, i: usize, p: &[usize]) -> usize {
+pub(crate) fn number(call: usize, t: usize, i: usize, p: &[usize]) -> usize {
     let sort = sort_of(t);
     let scratch = at(p, SCRATCH_LEN);
     let output = at(p, OUTPUT_LEN);

@@ -7,7 +7,7 @@ use crate::layout_reading::source;
 use crate::whole::*;
 
 // The number of the first fault in rendering, after the record's, 0 for none.
-pub fn render_fault(p: &[usize]) -> usize {
+pub(crate) fn render_fault(p: &[usize]) -> usize {
     let map_end = plus(at(p, MAP), times(6, at(p, COLORS)));
     let no_map = on(p, PALETTE) && at(p, FILE) < map_end;
     if at(p, BYTES) == 8 {
@@ -63,7 +63,7 @@ fn packed_byte(p: &[usize], file: &[u8], v: usize, k: usize) -> usize {
 }
 
 // Byte k of the picture that planes hold.
-pub fn rendered(p: &[usize], file: &[u8], raw: &[u8], k: usize) -> usize {
+pub(crate) fn rendered(p: &[usize], file: &[u8], raw: &[u8], k: usize) -> usize {
     let v = get(raw, source(p, k));
     let last = minus(at(p, CH), 1);
     let c = channel(p, k);
@@ -94,7 +94,7 @@ fn some_odd(p: &[usize], picture: &[u8]) -> bool {
 }
 
 // The number of the first fault in plane writing, after the record's, 0 for none.
-pub fn write_fault(p: &[usize], picture: &[u8]) -> usize {
+pub(crate) fn write_fault(p: &[usize], picture: &[u8]) -> usize {
     if on(p, PALETTE) || at(p, BYTES) == 8 || at(p, ALPHA) == 1 {
         1
     } else if at(p, LENGTH) < at(p, OUTPUT_LEN) {
@@ -117,7 +117,7 @@ fn put_in(p: &[usize], v: usize, k: usize) -> usize {
 }
 
 // Byte b of the planes of a picture: what the bytes whose place it is put there.
-pub fn plane_byte(p: &[usize], picture: &[u8], b: usize) -> usize {
+pub(crate) fn plane_byte(p: &[usize], picture: &[u8], b: usize) -> usize {
     let n = at(p, OUTPUT_LEN);
     let mut sum: usize = 0;
     let mut k: usize = 0;

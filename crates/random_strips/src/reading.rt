@@ -130,7 +130,13 @@ fn write(call: usize, p: &[usize], input: &[u8], file: &[u8], out: &mut [u8]) {
 }
 
 // Answers as the call should, and puts into `out` what it should write.
-pub fn answer(call: usize, p: &[usize], input: &[u8], file: &[u8], out: &mut [u8]) -> Answer {
+pub(crate) fn answer(
+    call: usize,
+    p: &[usize],
+    input: &[u8],
+    file: &[u8],
+    out: &mut [u8],
+) -> Answer {
     let number = fault(call, p, input);
     if number != 0 {
         return Answer { number, value: 0 };

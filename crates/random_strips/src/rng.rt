@@ -10,19 +10,19 @@ fn stir(x: usize) -> usize {
 }
 
 // A number below n; 0 where n is 0.
-pub fn pick(t: usize, item: usize, n: usize) -> usize {
+pub(crate) fn pick(t: usize, item: usize, n: usize) -> usize {
     let start = stir(plus(stir(plus(SEED, t)), 1));
     let x = stir(stir(plus(stir(plus(start, item)), 1)));
     remainder(x / 16, n)
 }
 
 // Yes once in n times.
-pub fn once_in(t: usize, item: usize, n: usize) -> bool {
+pub(crate) fn once_in(t: usize, item: usize, n: usize) -> bool {
     pick(t, item, n) == 0
 }
 
 // A number that is likely to be a fault where `good` is none: a neighbour, 0, the largest, a power of 2, a small one.
-pub fn edge(t: usize, item: usize, good: usize) -> usize {
+pub(crate) fn edge(t: usize, item: usize, good: usize) -> usize {
     let v = pick(t, plus(item, 1), 64);
     match pick(t, item, 8) {
         0 => 0,
@@ -36,7 +36,7 @@ pub fn edge(t: usize, item: usize, good: usize) -> usize {
 }
 
 // How long a buffer is of which `need` bytes are used: exact, or one byte or more too short or longer than that.
-pub fn room(t: usize, item: usize, need: usize) -> usize {
+pub(crate) fn room(t: usize, item: usize, need: usize) -> usize {
     let v = pick(t, plus(item, 1), 20);
     match pick(t, item, 8) {
         0 => minus(need, 1),
@@ -71,7 +71,7 @@ fn some_level(t: usize, item: usize, rare: usize, top: usize) -> usize {
 }
 
 // Such bytes, from item `item` on.
-pub fn fill(s: &mut [u8], t: usize, item: usize, rare: usize, top: usize) {
+pub(crate) fn fill(s: &mut [u8], t: usize, item: usize, rare: usize, top: usize) {
     let n = s.len();
     let mut i: usize = 0;
     while i < n {

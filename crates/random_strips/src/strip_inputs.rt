@@ -79,7 +79,7 @@ fn some_place(call: usize, t: usize, p: &[usize]) -> usize {
 }
 
 // Number i of such a call, where those before it stand in p.
-pub fn number(call: usize, t: usize, i: usize, p: &[usize]) -> usize {
+pub(crate) fn number(call: usize, t: usize, i: usize, p: &[usize]) -> usize {
     match i {
         LE | OUT_LE | WIDE => pick(t, i, 2),
         PREDICT => either(once_in(t, i, 4), 0, 1),

@@ -2,12 +2,12 @@
 use crate::calls::*;
 use crate::whole::*;
 
-pub fn served(width: usize) -> bool {
+pub(crate) fn served(width: usize) -> bool {
     width == 1 || width == 2 || width == 4 || width == 8
 }
 
 // The number of a strip's first fault, 0 for none.
-pub fn strip_fault(p: &[usize]) -> usize {
+pub(crate) fn strip_fault(p: &[usize]) -> usize {
     let width = at(p, WIDTH);
     let channels = at(p, CHANNELS);
     let row = at(p, ROW);
@@ -24,7 +24,7 @@ fn digit_place(p: usize, width: usize, le: bool) -> usize {
 }
 
 // The word of `width` bytes at a place: 256 times the value of the digits above, plus the digit, from the highest on.
-pub fn word(bytes: &[u8], from: usize, width: usize, le: bool) -> usize {
+pub(crate) fn word(bytes: &[u8], from: usize, width: usize, le: bool) -> usize {
     let mut v: usize = 0;
     let mut i: usize = 0;
     while i < width {
@@ -48,7 +48,7 @@ fn modulo(v: usize, width: usize) -> usize {
 }
 
 // Sample n's own word.
-pub fn own(bytes: &[u8], p: &[usize], n: usize) -> usize {
+pub(crate) fn own(bytes: &[u8], p: &[usize], n: usize) -> usize {
     let width = at(p, WIDTH);
     word(bytes, times(n, width), width, on(p, LE))
 }
@@ -64,7 +64,7 @@ fn steps(p: &[usize], n: usize) -> usize {
 }
 
 // Sample n: the sum of the words of its chain.
-pub fn sample(bytes: &[u8], p: &[usize], n: usize) -> usize {
+pub(crate) fn sample(bytes: &[u8], p: &[usize], n: usize) -> usize {
     let channels = at(p, CHANNELS);
     let turns = plus(steps(p, n), 1);
     let mut sum: usize = 0;
@@ -78,7 +78,7 @@ pub fn sample(bytes: &[u8], p: &[usize], n: usize) -> usize {
 }
 
 // Word n of forward prediction: the word less the one `channels` before it in the same row.
-pub fn forward_word(bytes: &[u8], p: &[usize], n: usize) -> usize {
+pub(crate) fn forward_word(bytes: &[u8], p: &[usize], n: usize) -> usize {
     let before = either(
         steps(p, n) == 0,
         0,
@@ -91,7 +91,7 @@ pub fn forward_word(bytes: &[u8], p: &[usize], n: usize) -> usize {
 }
 
 // Byte k of samples or words written in the asked byte order, where v is the one that it belongs to.
-pub fn byte_of(v: usize, p: &[usize], k: usize) -> usize {
+pub(crate) fn byte_of(v: usize, p: &[usize], k: usize) -> usize {
     let width = at(p, WIDTH);
     digit(
         v,
@@ -101,7 +101,7 @@ pub fn byte_of(v: usize, p: &[usize], k: usize) -> usize {
 }
 
 // Byte k of each group of `width` bytes written backwards.
-pub fn swapped_byte(bytes: &[u8], width: usize, k: usize) -> usize {
+pub(crate) fn swapped_byte(bytes: &[u8], width: usize, k: usize) -> usize {
     let group = times(quotient(k, width), width);
     get(
         bytes,
@@ -110,7 +110,7 @@ pub fn swapped_byte(bytes: &[u8], width: usize, k: usize) -> usize {
 }
 
 // Bit i of a byte at 7 - i.
-pub fn reversed(b: usize) -> usize {
+pub(crate) fn reversed(b: usize) -> usize {
     let mut v: usize = 0;
     let mut i: usize = 0;
     while i < 8 {

@@ -53,7 +53,11 @@ fn check_write(l: RasterLayout, picture: &[u8], planes: &[u8]) -> Done
 fn is_planar(l: RasterLayout) -> bool
     ensures { λ r. ⌜ r ≡ planarOf l ⌝ }
 {
-    if l.fields.separate { l.fields.slots != 8 } else { false }
+    if l.fields.separate {
+        l.fields.slots != 8
+    } else {
+        false
+    }
 }
 
 // What is not refused, written.

@@ -53,7 +53,11 @@ fn flips_channel(l: RasterLayout, c: usize) -> bool
     ensures { λ r. ⌜ r ≡ flipsChannel l c ⌝ }
 {
     if l.fields.white {
-        if l.fields.alpha == 0 { true } else { c != l.fields.ch - 1 }
+        if l.fields.alpha == 0 {
+            true
+        } else {
+            c != l.fields.ch - 1
+        }
     } else {
         false
     }
@@ -64,7 +68,14 @@ fn write_plane(l: RasterLayout, picture: &[u8], c: usize, out: &mut [u8])
     requires { ⌜ PlaneOf l (now picture) c (now out) ⌝ }
     ensures { λ r. ⌜ PlaneWritten l (now (picture .entry)) c (now (out .entry)) (now (out .exit)) ⌝ }
 {
-    channel(picture, c * l.fields.bytes, l.fields.ch * l.fields.bytes, l.fields.bytes, l.fields.le, out);
+    channel(
+        picture,
+        c * l.fields.bytes,
+        l.fields.ch * l.fields.bytes,
+        l.fields.bytes,
+        l.fields.le,
+        out,
+    );
     if flips_channel(l, c) {
         pixels::invert(out);
     }
