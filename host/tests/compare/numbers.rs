@@ -3,7 +3,7 @@
 
 use crate::plain;
 use crate::random::Random;
-use hamrisk::{ByteOrder, Layout, Strip};
+use hamrisk::{ByteOrder, Derived, Layout, Strip};
 
 #[rustfmt::skip]
 extern "C" {
@@ -11,10 +11,8 @@ extern "C" {
     fn hamrisk_load(s: *const u8, s_len: usize, i: usize, wide: bool, le: bool, value: *mut u32) -> u32;
     fn hamrisk_marks(damage: *const u8, damage_len: usize, row_bytes: usize, channels: usize, width: usize, predict: bool,
                      marks: *mut u8, marks_len: usize, count: *mut usize) -> u32;
-    fn hamrisk_check_layout(w: usize, h: usize, ch: usize, bytes: usize, slots: usize, palette: bool, separate: bool,
-                            le: bool, white: bool, alpha: usize, map: usize, derived: *mut usize) -> u32;
-    fn hamrisk_index(w: usize, h: usize, ch: usize, bytes: usize, slots: usize, palette: bool, separate: bool,
-                     le: bool, white: bool, alpha: usize, map: usize, k: usize, place: *mut usize) -> u32;
+    fn hamrisk_check_layout(layout: *const usize, derived: *mut usize) -> u32;
+    fn hamrisk_index(layout: *const usize, k: usize, place: *mut usize) -> u32;
 }
 
 /// Calls with a pointer to the middle of a row of numbers, and checks what became of all of them.
@@ -98,43 +96,39 @@ fn counts() {
 fn layouts() {
     let mut random = Random::new(32);
     for _ in 0..20_000 {
-        let le = random.flag();
-        let l = Layout {
-            w: random.one_of(&[0, 1, 9, 16_384, 16_385]),
-            h: random.one_of(&[0, 1, 2, 16_384, 16_385]),
-            ch: random.below(6),
-            bytes: random.one_of(&[1, 1, 1, 2, 3, 8]),
-            slots: random.one_of(&[1, 1, 1, 2, 8]),
-            palette: random.below(3) == 0,
-            separate: random.below(3) == 0,
-            order: order(le),
-            white: random.flag(),
-            alpha: random.one_of(&[0, 0, 0, 1, 2, 3]),
-            map: random.below(9),
-        };
+        let fields = [
+            random.one_of(&[0, 1, 9, 16_384, 16_385]),
+            random.one_of(&[0, 1, 2, 16_384, 16_385]),
+            random.below(6),
+            random.one_of(&[1, 1, 1, 2, 3, 8]),
+            random.one_of(&[1, 1, 1, 2, 8]),
+            flag(&mut random),
+            flag(&mut random),
+            flag(&mut random),
+            flag(&mut random),
+            random.one_of(&[0, 0, 0, 1, 2, 3]),
+            random.below(9),
+        ];
+        let [w, h, ch, bytes, slots, palette, separate, le, white, alpha, map] = fields;
+        let (palette, separate, white) = (palette != 0, separate != 0, white != 0);
+        let l = Layout { w, h, ch, bytes, slots, palette, separate, order: order(le != 0), white, alpha, map };
         let k = random.below(30);
-        let seven = plain::check_layout(&l).map(|d| {
-            vec![
-                d.encoded_width,
-                d.plane_channels,
-                d.planes,
-                d.plane_length,
-                d.scratch_length,
-                d.output_length,
-                d.colours,
-            ]
-        });
-        // SAFETY: the pointer is that of seven numbers in an array.
-        check(usize::MAX / 5, seven, |derived| unsafe {
-            hamrisk_check_layout(
-                l.w, l.h, l.ch, l.bytes, l.slots, l.palette, l.separate, le, l.white, l.alpha, l.map, derived,
-            )
-        });
-        // SAFETY: the pointer is that of a number in an array.
-        check(usize::MAX / 7, plain::index(&l, k).map(|place| vec![place]), |place| unsafe {
-            hamrisk_index(
-                l.w, l.h, l.ch, l.bytes, l.slots, l.palette, l.separate, le, l.white, l.alpha, l.map, k, place,
-            )
-        });
+        let flagged = fields[5..9].iter().any(|&n| n > 1);
+        let seven = if flagged { Err(1) } else { plain::check_layout(&l).map(seven) };
+        let place = if flagged { Err(1) } else { plain::index(&l, k).map(|place| vec![place]) };
+        // SAFETY: the pointers are those of eleven numbers and of seven in an array.
+        check(usize::MAX / 5, seven, |derived| unsafe { hamrisk_check_layout(fields.as_ptr(), derived) });
+        // SAFETY: the pointers are those of eleven numbers and of one in an array.
+        check(usize::MAX / 7, place, |place| unsafe { hamrisk_index(fields.as_ptr(), k, place) });
     }
+}
+
+/// A flag of a layout, now and then neither 0 nor 1.
+fn flag(random: &mut Random) -> usize {
+    random.one_of(&[0, 0, 0, 0, 0, 0, 0, 0, 1, 1, 1, 1, 1, 1, 1, 2, usize::MAX])
+}
+
+/// What follows from a layout, in the header's order.
+fn seven(d: Derived) -> Vec<usize> {
+    vec![d.encoded_width, d.plane_channels, d.planes, d.plane_length, d.scratch_length, d.output_length, d.colours]
 }
