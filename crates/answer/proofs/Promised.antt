@@ -15,7 +15,7 @@ use Rattle.answer.specs.declared.Done.{Done}
 use Rattle.answer.specs.declared.Done.the-variants as Done-is
 use Rattle.answer.specs.Table.{table, filled}
 use Rattle.answer.proofs.Filling.{whole, length-table}
-use Rattle.answer.specs.Outcome.{Outcome, done, refused, Fault, unless, Promise, after, number, doneOutcome, First, here, later, Sound, none, next}
+use Rattle.answer.specs.Outcome.{Outcome, done, refused, Fault, unless, Promise, after, number, doneOutcome, Step, First, here, later, Sound, none, next}
 
 -- two outcomes that one promise allows are the same
 pub determined : {A : Type 0} {o : Outcome A} {w old : List ℕ} (a b : Outcome A) (x y : List ℕ) → Promise o w old a x → Promise o w old b y → (a ≡ b) × (x ≡ y)
@@ -197,3 +197,17 @@ done-once = once doneOutcome back back-done
 pub done-determined : {o : Outcome (Unit {0})} {w old : List ℕ} (a b : Done) (x y : List ℕ) → Promise o w old (doneOutcome a) x → Promise o w old (doneOutcome b) y → (a ≡ b) × (x ≡ y)
 done-determined a b x y p q =
     let one = determined (doneOutcome a) (doneOutcome b) x y p q in (done-once a b (one .0), one .1)
+
+-- what a step says of its faults
+pub step-sound : {fs : List Fault} {a : Done} → Step fs a → a ≡ Done-is.Done → Sound fs
+step-sound {fs} {a} p e = passed fs a (p .passed) e
+
+pub step-first : {fs : List Fault} {a : Done} {k : Refusal} → Step fs a → a ≡ Done-is.Refused k → First fs (number k)
+step-first {fs} {a} {k} p e = stopped fs a k (p .passed) e
+
+-- steps one after another: a refusal stands, and where there is none the later list decides
+pub step-refused : {fs : List Fault} (gs : List Fault) {a : Done} {k : Refusal} → Step fs a → a ≡ Done-is.Refused k → Step (fs ++ gs) (Done-is.Refused k)
+step-refused {fs} gs p e = record { passed = refusing (fs ++ gs) tt (first-more gs (step-first p e)) }
+
+pub step-on : {fs gs : List Fault} {a b : Done} → Step fs a → a ≡ Done-is.Done → Step gs b → Step (fs ++ gs) b
+step-on {fs} {gs} p e q = record { passed = q .passed ∙ sym (sound-skip gs tt (step-sound p e)) }

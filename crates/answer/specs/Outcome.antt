@@ -73,6 +73,17 @@ abbrev pub doneOutcome : Done → Outcome (Unit {0})
 doneOutcome Done-is.Done = done tt
 doneOutcome (Done-is.Refused k) = refused (number k)
 
+-- a step that looked for faults and answered the first: a record, so that its list is told from its type
+pub record Step (faults : List Fault) (answer : Done) : Type 0 where
+  pub passed : doneOutcome answer ≡ unless faults tt
+
+abbrev pub faultOf : Bool → Refusal → Fault
+faultOf found kind = record { found = found; kind = number kind }
+
+-- one step after another: an answer for both lists of faults, end to end
+abbrev pub InOrder : Done → Done → Done → Type 0
+InOrder one later answer = (fs gs : List Fault) → Step fs one → Step gs later → Step (fs ++ gs) answer
+
 -- the first fault of a list that is found leads to the refusal n
 pub data First : List Fault → ℕ → Type 0 where
   here : {f : Fault} {fs : List Fault} → f .found ≡ true → First (f ∷ fs) (f .kind)

@@ -1,5 +1,7 @@
+// What every call answers with: the five refusals, the finished work, the two kinds of position; and how a check looks for faults in order.
 ghost use mathlib.Core.Path.{_≡_};
-ghost use Rattle.answer.specs.Outcome.{number as numberOf};
+ghost use mathlib.Core.List.{[], _∷_};
+ghost use Rattle.answer.specs.Outcome.{number as numberOf, faultOf, Step, InOrder};
 
 // The five kinds of refusal, in the order of document 01's numbers.
 pub enum Refusal {
@@ -32,5 +34,26 @@ pub fn number(kind: Refusal) -> u32
         Refusal::Truncated => 3,
         Refusal::OutputTooSmall => 4,
         Refusal::Limit => 5,
+    }
+}
+
+// One fault: its refusal if it is found.
+pub fn fault(found: bool, kind: Refusal) -> Done
+    ensures { λ r. ⌜ Step (faultOf found kind ∷ []) r ⌝ }
+{
+    if found {
+        Done::Refused(kind)
+    } else {
+        Done::Done
+    }
+}
+
+// One step after another: of two answers the first refusal.
+pub fn first_of(one: Done, later: Done) -> Done
+    ensures { λ r. ⌜ InOrder one later r ⌝ }
+{
+    match one {
+        Done::Refused(k) => Done::Refused(k),
+        Done::Done => later,
     }
 }

@@ -1,6 +1,6 @@
 -- What the three steps have shown of a layout, as plain facts, and that these facts are all they ask. Assumes nothing.
 use Prim.Native.Nat.{ℕ, _≤_, _<_}
-use mathlib.Core.Path.{_≡_}
+use mathlib.Core.Path.{_≡_, sym}
 use mathlib.Core.Bool.{true, false}
 use mathlib.Core.Logic.{_⊎_, inl, inr, ⊎-elim}
 use native.Mathlib.Omega.{arith}
@@ -9,7 +9,7 @@ use Rattle.answer.specs.Outcome.{Sound, next, none}
 use Rattle.layout.specs.declared.Fields.{Fields}
 use Rattle.layout.specs.declared.RasterLayout.{RasterLayout}
 use Rattle.layout.specs.Layout.{servedFaults, layoutFaults, agreement, oneTwoEight, eightRule, alphaRule, paletteRule, slotsRule, sideLimit, byteLimit, outputLength}
-use Rattle.layout.proofs.Says.{Says, held, equal, differ, up, down, both, either, whenever, restated}
+use Rattle.layout.proofs.Says.{Says, clash, held, refuted, equal, up, down, both, either, whenever, or-else, restated}
 
 abbrev pub OneTwoEight : ℕ → Type 0
 OneTwoEight n = ((n ≡ 1) ⊎ (n ≡ 2)) ⊎ (n ≡ 8)
@@ -47,7 +47,7 @@ module _ (f : Fields) where
 
   pub alpha-rule : Says (alphaRule f) (AlphaRule f)
   unfolding alphaRule
-  alpha-rule = whenever (differ (f .alpha) 0) (both (both (equal (f .bytes) 1) (either (equal (f .ch) 2) (equal (f .ch) 4))) (down (f .palette)))
+  alpha-rule = or-else (equal (f .alpha) 0) (both (both (equal (f .bytes) 1) (either (equal (f .ch) 2) (equal (f .ch) 4))) (down (f .palette)))
 
   pub palette-rule : Says (paletteRule f) (PaletteRule f)
   unfolding paletteRule
@@ -55,7 +55,11 @@ module _ (f : Fields) where
 
   pub slots-rule : Says (slotsRule f) (SlotsRule f)
   unfolding slotsRule
-  slots-rule = whenever (down (f .palette)) (either (equal (f .slots) 1) (both (both (both (equal (f .slots) 8) (equal (f .ch) 1)) (equal (f .bytes) 1)) (equal (f .alpha) 0)))
+  slots-rule =
+      restated
+      (or-else (up (f .palette)) (either (equal (f .slots) 1) (both (both (both (equal (f .slots) 8) (equal (f .ch) 1)) (equal (f .bytes) 1)) (equal (f .alpha) 0))))
+      (λ q e. q (λ p. clash p e))
+      (λ q n. q (sym (refuted (up (f .palette)) n)))
 
 pub record Accepted (f : Fields) : Type 0 where
   pub bytes : OneTwoEight (f .bytes)

@@ -1,5 +1,4 @@
 pub mod Says
-pub mod Steps
 pub mod Accepted
 pub mod Sizes
 pub mod Whole

@@ -7,7 +7,6 @@ use mathlib.Core.Logic.{_⊎_, inl, inr}
 use native.Mathlib.Omega.{arith}
 use borrow.Author.Tests.{eq-eqb, eqb-true, eqb-false, ne-eqb, not-true}
 use lib.Dec.{eqb}
-use Rattle.layout.specs.Layout.{implies}
 
 pub record Says (b : Bool) (P : Type 0) : Type 0 where
   pub tells : b ≡ true → P
@@ -81,12 +80,23 @@ either {a} {b} {P} {Q} s r = record { tells = by a refl; told = back }
         last true = refl
         last false = refl
 
-pub whenever : {a b : Bool} {P Q : Type 0} → Says a P → Says b Q → Says (implies a b) (P → Q)
+pub whenever : {a b : Bool} {P Q : Type 0} → Says a P → Says b Q → Says (not a || b) (P → Q)
 whenever {a} {b} {P} {Q} s r = record { tells = λ t p. r .tells (rw (s .told p) at t); told = back a refl }
   where
-    back : (x : Bool) → a ≡ x → (P → Q) → implies x b ≡ true
+    back : (x : Bool) → a ≡ x → (P → Q) → (not x || b) ≡ true
     back true e f = r .told (f (s .tells e))
     back false e f = refl
+
+pub or-else : {a b : Bool} {P Q : Type 0} → Says a P → Says b Q → Says (a || b) ((P → ⊥) → Q)
+or-else {a} {b} {P} {Q} s r = record { tells = by a refl; told = back a refl }
+  where
+    by : (x : Bool) → a ≡ x → (x || b) ≡ true → (P → ⊥) → Q
+    by true e t n = absurd (n (s .tells e))
+    by false e t n = r .tells t
+
+    back : (x : Bool) → a ≡ x → ((P → ⊥) → Q) → (x || b) ≡ true
+    back true e f = refl
+    back false e f = r .told (f (λ p. clash (s .told p) e))
 
 -- the same test of the same fact in other words
 pub restated : {b : Bool} {P Q : Type 0} → Says b P → (P → Q) → (Q → P) → Says b Q

@@ -61,21 +61,18 @@ byteLimit = 1073741824
 abbrev pub oneTwoEight : ℕ → Bool
 oneTwoEight n = eqb n 1 || eqb n 2 || eqb n 8
 
-abbrev pub implies : Bool → Bool → Bool
-implies a b = pick a b true
-
 -- step 2's rules: the clauses of `valid` over what a caller says
 unfoldable pub eightRule : Fields → Bool
-eightRule f = implies (eqb (f .bytes) 8) (not (f .white) && not (f .palette) && eqb (f .alpha) 0 && eqb (f .slots) 1 && (eqb (f .ch) 1 || eqb (f .ch) 3))
+eightRule f = not (eqb (f .bytes) 8) || (not (f .white) && not (f .palette) && eqb (f .alpha) 0 && eqb (f .slots) 1 && (eqb (f .ch) 1 || eqb (f .ch) 3))
 
 unfoldable pub alphaRule : Fields → Bool
-alphaRule f = implies (not (eqb (f .alpha) 0)) (eqb (f .bytes) 1 && (eqb (f .ch) 2 || eqb (f .ch) 4) && not (f .palette))
+alphaRule f = eqb (f .alpha) 0 || (eqb (f .bytes) 1 && (eqb (f .ch) 2 || eqb (f .ch) 4) && not (f .palette))
 
 unfoldable pub paletteRule : Fields → Bool
-paletteRule f = implies (f .palette) (eqb (f .ch) 3 && eqb (f .bytes) 1 && oneTwoEight (f .slots) && not (f .separate) && eqb (f .alpha) 0)
+paletteRule f = not (f .palette) || (eqb (f .ch) 3 && eqb (f .bytes) 1 && oneTwoEight (f .slots) && not (f .separate) && eqb (f .alpha) 0)
 
 unfoldable pub slotsRule : Fields → Bool
-slotsRule f = implies (not (f .palette)) (eqb (f .slots) 1 || eqb (f .slots) 8 && eqb (f .ch) 1 && eqb (f .bytes) 1 && eqb (f .alpha) 0)
+slotsRule f = f .palette || (eqb (f .slots) 1 || eqb (f .slots) 8 && eqb (f .ch) 1 && eqb (f .bytes) 1 && eqb (f .alpha) 0)
 
 -- document 01's three steps
 abbrev pub servedFaults : Fields → List Fault
@@ -103,11 +100,6 @@ sizeFaults f =
 
 abbrev pub layoutFaults : Fields → List Fault
 layoutFaults f = servedFaults f ++ (agreedFaults f ++ sizeFaults f)
-
--- of two refusals the first
-abbrev pub firstOf : Outcome (Unit {0}) → Outcome (Unit {0}) → Outcome (Unit {0})
-firstOf (refused n) later = refused n
-firstOf (done a) later = later
 
 -- whether a record says of itself what follows from the rest of it
 unfoldable pub agreement : RasterLayout → RasterLayout → Bool
@@ -162,14 +154,11 @@ placeOutcome (Place-is.Done at) = done (at .0)
 placeOutcome (Place-is.Refused k) = refused (number k)
 
 -- what the functions promise
-abbrev pub StepPassed : List Fault → Done → Type 0
-StepPassed faults answer = doneOutcome answer ≡ unless faults tt
-
 abbrev pub LayoutChecked : Fields → Checked → Type 0
 LayoutChecked f answer = checkedOutcome answer ≡ unless (layoutFaults f) (completed f)
 
 abbrev pub RecordChecked : RasterLayout → Done → Type 0
-RecordChecked l answer = StepPassed (recordFaults l) answer
+RecordChecked l answer = doneOutcome answer ≡ unless (recordFaults l) tt
 
 abbrev pub Indexed : RasterLayout → ℕ → Place → Type 0
 Indexed l k answer = placeOutcome answer ≡ unless (indexFaults l k) (sourceIndex l k)

@@ -2,14 +2,16 @@
 use answer::ByteAt;
 use answer::Done;
 use answer::Refusal;
+use answer::fault;
+use answer::first_of;
 
 mod derived;
 mod rules;
 mod source;
 
 ghost use mathlib.Core.Path.{_≡_};
-ghost use Rattle.answer.specs.Outcome.{doneOutcome};
-ghost use Rattle.layout.specs.Layout.{layoutFaults, firstOf, agreement, StepPassed, LayoutChecked, RecordChecked, Indexed};
+ghost use Rattle.answer.specs.Outcome.{Step};
+ghost use Rattle.layout.specs.Layout.{layoutFaults, agreement, LayoutChecked, RecordChecked, Indexed};
 
 // What a caller says of a picture: all of a record that is not worked out.
 pub struct Fields {
@@ -50,19 +52,9 @@ pub enum Place {
     Refused(Refusal),
 }
 
-// Of two answers the first refusal.
-fn first_of(one: Done, later: Done) -> Done
-    ensures { λ r. ⌜ doneOutcome r ≡ firstOf (doneOutcome one) (doneOutcome later) ⌝ }
-{
-    match one {
-        Done::Refused(k) => Done::Refused(k),
-        Done::Done => later,
-    }
-}
-
 // The three steps, in document 01's order. The third multiplies, so it waits for what the first shows.
 fn check_fields(f: Fields) -> Done
-    ensures { λ r. ⌜ StepPassed (layoutFaults f) r ⌝ }
+    ensures { λ r. ⌜ Step (layoutFaults f) r ⌝ }
 {
     let served = rules::check_served(f);
     let agreed = rules::check_agreed(f);
@@ -86,25 +78,13 @@ pub fn check_layout(f: Fields) -> Checked
 fn agrees(l: RasterLayout, right: RasterLayout) -> bool
     ensures { λ r. ⌜ r ≡ agreement l right ⌝ }
 {
-    if l.encoded_width != right.encoded_width {
-        return false;
-    }
-    if l.plane_channels != right.plane_channels {
-        return false;
-    }
-    if l.planes != right.planes {
-        return false;
-    }
-    if l.plane_len != right.plane_len {
-        return false;
-    }
-    if l.scratch_len != right.scratch_len {
-        return false;
-    }
-    if l.output_len != right.output_len {
-        return false;
-    }
-    l.colors == right.colors
+    (l.encoded_width == right.encoded_width)
+        & (l.plane_channels == right.plane_channels)
+        & (l.planes == right.planes)
+        & (l.plane_len == right.plane_len)
+        & (l.scratch_len == right.scratch_len)
+        & (l.output_len == right.output_len)
+        & (l.colors == right.colors)
 }
 
 // Whether a record, by hand or not, is the one that the check answers.
@@ -114,13 +94,7 @@ pub fn check_record(l: RasterLayout) -> Done
     let f = l.fields;
     match check_fields(f) {
         Done::Refused(k) => Done::Refused(k),
-        Done::Done => {
-            if agrees(l, derived::complete(f)) {
-                Done::Done
-            } else {
-                Done::Refused(Refusal::Invalid)
-            }
-        }
+        Done::Done => fault(!agrees(l, derived::complete(f)), Refusal::Invalid),
     }
 }
 
