@@ -5,8 +5,7 @@ use mathlib.Core.Path.{_≡_, refl, sym, ap, _∙_}
 use mathlib.Core.Bool.{Bool, true, false, _||_, or-false}
 use mathlib.Core.List.{List}
 use Prim.Native.Nat.{ℕ, zero, suc, _+_, _-_, _*_, _/_, _%_, _≤_, _<_}
-use native.Mathlib.Nat.{add-comm, suc-mul, mul-le-mul-right, mod-eq-of-lt, div-mul-le-self}
-use native.Mathlib.Decide.{decLt}
+use native.Mathlib.Nat.{suc-mul, mul-le-mul-right, mod-eq-of-lt, div-mul-le-self}
 use native.Mathlib.Omega.{arith}
 use borrow.Author.Tests.{eq-eqb, ne-eqb}
 use lib.Dec.{eqb}
@@ -14,23 +13,14 @@ use lib.ListN.{length, getD}
 use Rattle.answer.specs.Table.{table}
 use Rattle.answer.proofs.Filling.{length-table, table-at}
 use Rattle.words.specs.Digits.{digit}
-use Rattle.words.specs.Word.{ordered, Bytes, modulus, plus, minus}
-use Rattle.words.proofs.Words.{word-below, word-digit, word-same, plus-minus}
+use Rattle.words.specs.Word.{ordered, Bytes, modulus}
+use Rattle.words.proofs.Words.{word-below, word-digit, word-same}
 use Rattle.samples.specs.Sample.{Strip, alone, wordOf, sample}
 use Rattle.samples.proofs.Sums.{neither, not-alone, sample-alone, sample-later}
 use Rattle.samples.proofs.Undo.{sample-below}
 use Rattle.damage.specs.Marks.{struck, marked, markByte, Alike, Differ}
-use Rattle.damage.proofs.Marking.{past-end, mark-small, damaged-hurt, unstruck, struck-where, marked-alone, marked-later}
-
--- `plus` cancels, on either side
-plus-left : (width a c b : ℕ) → a < modulus width → c < modulus width → b < modulus width → plus width a b ≡ plus width c b → a ≡ c
-plus-left width a c b ha hc hb e = sym (plus-minus width a b ha hb) ∙ ap (λ (x : ℕ). minus width x b) e ∙ plus-minus width c b hc hb
-
-plus-turned : (width a b : ℕ) → plus width a b ≡ plus width b a
-plus-turned width a b = ap (λ (x : ℕ). x % modulus width) (add-comm a b)
-
-plus-right : (width a b d : ℕ) → a < modulus width → b < modulus width → d < modulus width → plus width a b ≡ plus width a d → b ≡ d
-plus-right width a b d ha hb hd e = plus-left width b d a hb hd ha (plus-turned width b a ∙ e ∙ plus-turned width a d)
+use Rattle.damage.proofs.General.{each-table, plus-left, plus-right}
+use Rattle.damage.proofs.Marking.{mark-small, damaged-hurt, unstruck, struck-where, marked-alone, marked-later}
 
 -- sample n and the one `channels` before it are there
 abbrev There : Strip → List ℕ → ℕ → Type 0
@@ -74,11 +64,7 @@ module _ (g : Strip) (some : 0 < g .channels) (predict le : Bool) (damage : List
   oneAt k = table (length damage) (λ i. markByte (eqb i k))
 
   small : (f : ℕ → ℕ) → ((i : ℕ) → f i < 256) → Bytes (table (length damage) f)
-  small f h i = by (decLt i (length damage))
-    where
-      by : Dec (i < length damage) → getD (table (length damage) f) i 0 < 256
-      by (yes l) = rw (table-at (length damage) f i l) (h i)
-      by (no m) = omega (arith, past-end (table (length damage) f) i (omega (arith, length-table (length damage) f)))
+  small f h = each-table (λ x. x < 256) (omega arith) (length damage) f h
 
   zeros-bytes : Bytes zeros
   zeros-bytes = small (λ i. 0) (λ i. omega arith)

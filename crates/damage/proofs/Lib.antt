@@ -1,7 +1,9 @@
+pub mod General
 pub mod Marking
 pub mod Exact
 pub mod Loops
-pub mod Rowwise
+pub mod Begins
+pub mod MarkedRows
 pub mod Promised
 pub mod Laws
 pub mod Determined

@@ -12,42 +12,31 @@ use borrow.Author.Tests.{lt-ltb, le-ltb, eq-eqb, ne-eqb}
 use lib.Dec.{eqb}
 use lib.ListN.{length, getD, set, length-set}
 use lib.Seq.{getD-set-same, getD-set-other, ext-getD}
-use Rattle.answer.specs.Table.{table, filled}
-use Rattle.answer.proofs.Filling.{part, length-part, part-at, length-table, table-at, table-same, table-self, filled-more, filled-all}
+use Rattle.answer.specs.Table.{table}
+use Rattle.answer.proofs.Filling.{part, length-part, part-at, length-table, table-at}
 use Rattle.samples.specs.Sample.{strip, alone}
-use Rattle.samples.proofs.Sums.{first-alone}
 use Rattle.damage.specs.Marks.{damaged, struckAt, struck, marked, markByte, counted}
-use Rattle.damage.specs.Passes.{larger, Bits, OneEach, OwnInto, SpreadInto}
-use Rattle.damage.proofs.Marking.{past-end, mark-small, struck-one, marked-alone, marked-later}
+use Rattle.damage.specs.Passes.{larger, Bits, OneEach, OnwardInto, since}
+use Rattle.damage.proofs.General.{each-table, FilledTo, filled-none, filled-next}
+use Rattle.damage.proofs.Marking.{mark-small, struck-one, marked-alone, marked-later}
 
 -- the marks that samples have of their own bytes, up to n; `at` is where sample n's bytes begin
 pub record Owning (width : ℕ) (damage old : List ℕ) (at n : ℕ) (out : List ℕ) : Type 0 where
-  pub inside : n ≤ length old
   pub place : at ≡ n * width
-  pub same : length out ≡ length old
-  pub so-far : out ≡ filled n (λ k. markByte (struck width damage k)) old
+  pub marks : FilledTo (λ k. markByte (struck width damage k)) old n out
 
 pub owning-none : (width : ℕ) (damage old : List ℕ) → Owning width damage old 0 0 old
-owning-none width damage old = record { inside = omega arith; place = sym (zero-mul width); same = refl; so-far = refl }
+owning-none width damage old = record { place = sym (zero-mul width); marks = filled-none _ old }
 
 module _ {width : ℕ} {damage old : List ℕ} {at n : ℕ} {out : List ℕ} (each : OneEach damage width old) (is : Owning width damage old at n out) where
   pub own-room : n < length old → at + width ≤ length damage
   own-room more = omega (arith, mul-le-mul-right width more, suc-mul n width, is .place, each)
 
   pub own-turned : n < length old → (x : ℕ) → x ≡ markByte (struckAt width damage at) → Owning width damage old (at + width) (n + 1) (set out n x)
-  own-turned more x e =
-      let value : x ≡ markByte (struck width damage n) = e ∙ ap (λ (k : ℕ). markByte (struckAt width damage k)) (is .place) in
-      record {
-        inside = omega arith;
-        place = rw add-one (omega (arith, is .place, suc-mul n width));
-        same = length-set out n x ∙ is .same;
-        so-far = rw (value, is .so-far) (filled-more n (λ k. markByte (struck width damage k)) old more);
-      }
-
-  pub own-ended : length old ≤ n → OwnInto damage width old out
-  own-ended l =
-      let all : n ≡ length old = omega (arith, is .inside) in
-      (rw all at (is .so-far)) ∙ filled-all (length old) (λ k. markByte (struck width damage k)) old (omega arith)
+  own-turned more x e = record {
+    place = rw add-one (omega (arith, is .place, suc-mul n width));
+    marks = filled-next (is .marks) more x (e ∙ ap (λ (k : ℕ). markByte (struckAt width damage k)) (is .place));
+  }
 
 -- the larger of two numbers, and of two marks: that of either
 pub larger-less : (a b : ℕ) → a < b → larger a b ≡ b
@@ -55,6 +44,13 @@ larger-less a b h = rw (lt-ltb a b h)
 
 pub larger-not : (a b : ℕ) → b ≤ a → larger a b ≡ a
 larger-not a b h = rw (le-ltb a b h)
+
+pub larger-both : (a b : ℕ) → (a ≤ larger a b) × (b ≤ larger a b)
+larger-both a b = by (decLt a b)
+  where
+    by : Dec (a < b) → (a ≤ larger a b) × (b ≤ larger a b)
+    by (yes l) = omega (arith, larger-less a b l)
+    by (no m) = omega (arith, larger-not a b (omega arith))
 
 larger-mark : (a b : Bool) → larger (markByte a) (markByte b) ≡ markByte (a || b)
 larger-mark true true = refl
@@ -69,94 +65,61 @@ bit-mark marks bits k = by (decLt 0 (getD marks k 0))
     by (yes l) = ap (λ (b : Bool). markByte (not b)) (ne-eqb (getD marks k 0) 0 (λ z. omega arith)) ∙ omega (arith, bits k)
     by (no m) = ap (λ (b : Bool). markByte (not b)) (eq-eqb (getD marks k 0) 0 (omega arith)) ∙ omega arith
 
--- the marks of a row after spreading, up to n; the rest are as they were
-abbrev spreadAt : ℕ → List ℕ → ℕ → ℕ
-spreadAt channels old k = markByte (marked (strip (length old) channels 1) true old k)
+-- the marks of a row carried onward, up to n; the rest are as they were
+abbrev onwardAt : ℕ → List ℕ → ℕ → ℕ
+onwardAt channels old k = markByte (marked (strip (length old) channels 1) true old k)
 
-pub record Spreading (channels : ℕ) (old : List ℕ) (n : ℕ) (out : List ℕ) : Type 0 where
+pub record Onward (channels : ℕ) (old : List ℕ) (n : ℕ) (out : List ℕ) : Type 0 where
   pub same : length out ≡ length old
-  pub front : (k : ℕ) → k < n → k < length old → getD out k 0 ≡ spreadAt channels old k
+  pub started : channels ≤ n
+  pub front : (k : ℕ) → k < n → k < length old → getD out k 0 ≡ onwardAt channels old k
   pub rest : (k : ℕ) → n ≤ k → getD out k 0 ≡ getD old k 0
 
-spread-first : (channels : ℕ) (predict : Bool) (old : List ℕ) → Bits old → (k : ℕ) → alone (strip (length old) channels 1) predict k ≡ true → getD old k 0 ≡ markByte (marked (strip (length old) channels 1) predict old k)
-spread-first channels predict old bits k e =
-    sym (bit-mark old bits k) ∙ ap markByte (sym (marked-alone (strip (length old) channels 1) predict old k e ∙ struck-one old k))
+-- one of the first `channels` marks, and a later one
+onward-first : (channels : ℕ) (old : List ℕ) → Bits old → (k : ℕ) → k < channels → getD old k 0 ≡ onwardAt channels old k
+onward-first channels old bits k h =
+    let first = lt-ltb (k % (length old / 1)) channels (omega (arith, mod-le k (length old / 1))) in
+    sym (bit-mark old bits k) ∙ ap markByte (sym (marked-alone (strip (length old) channels 1) true old k first ∙ struck-one old k))
 
--- without prediction nothing is spread
-pub spread-none : (channels : ℕ) (old : List ℕ) → Bits old → SpreadInto channels false old old
-spread-none channels old bits = sym (table-self old) ∙ table-same (length old) _ _ (λ k h. spread-first channels false old bits k refl)
-
-spread-later : (channels : ℕ) (old : List ℕ) → Bits old → 0 < channels → (k : ℕ) → channels ≤ k → k < length old → larger (getD old k 0) (spreadAt channels old (k - channels)) ≡ spreadAt channels old k
-spread-later channels old bits some k d h =
+onward-later : (channels : ℕ) (old : List ℕ) → Bits old → 0 < channels → (k : ℕ) → channels ≤ k → k < length old → larger (getD old k 0) (onwardAt channels old (k - channels)) ≡ onwardAt channels old k
+onward-later channels old bits some k d h =
     let g = strip (length old) channels 1 in
     let in-row : k % (length old / 1) ≡ k = rw div-one (mod-eq-of-lt h) in
     let later : alone g true k ≡ false = rw in-row (le-ltb k channels d) in
-    ap (λ (x : ℕ). larger x (spreadAt channels old (k - channels))) (sym (bit-mark old bits k) ∙ ap markByte (sym (struck-one old k)))
+    ap (λ (x : ℕ). larger x (onwardAt channels old (k - channels))) (sym (bit-mark old bits k) ∙ ap markByte (sym (struck-one old k)))
     ∙ larger-mark (struck 1 old k) (marked g true old (k - channels))
     ∙ ap markByte (sym (marked-later g true old k some later))
 
-pub spreading-none : (channels : ℕ) (old : List ℕ) → Bits old → Spreading channels old channels old
-spreading-none channels old bits = record {
-  same = refl;
-  front = λ k h l. spread-first channels true old bits k (lt-ltb (k % (length old / 1)) channels (omega (arith, mod-le k (length old / 1))));
-  rest = λ k h. refl;
-}
+pub onward-none : (channels : ℕ) (old : List ℕ) → Bits old → Onward channels old channels old
+onward-none channels old bits = record { same = refl; started = omega arith; front = λ k h l. onward-first channels old bits k h; rest = λ k h. refl }
 
-module _ {channels : ℕ} {old : List ℕ} {n : ℕ} {out : List ℕ} (is : Spreading channels old n out) where
-  pub spread-turned : n < length old → (x : ℕ) → x ≡ spreadAt channels old n → Spreading channels old (n + 1) (set out n x)
-  spread-turned more x e = record {
+module _ {channels : ℕ} {old : List ℕ} {n : ℕ} {out : List ℕ} (is : Onward channels old n out) where
+  pub onward-turned : Bits old → 0 < channels → n < length old → (x : ℕ) → x ≡ larger (getD out n 0) (getD out (n - channels) 0) → Onward channels old (n + 1) (set out n x)
+  onward-turned bits some more x e = record {
     same = length-set out n x ∙ is .same;
+    started = omega (arith, is .started);
     front = λ k h l. by k h l (decLt k n);
     rest = λ k h. getD-set-other out n k x 0 (λ z. omega arith) ∙ is .rest k (omega arith);
   }
     where
-      by : (k : ℕ) → k < n + 1 → k < length old → Dec (k < n) → getD (set out n x) k 0 ≡ spreadAt channels old k
+      here : x ≡ onwardAt channels old n
+      here = e ∙ rw (is .rest n (omega arith), is .front (n - channels) (omega (arith, is .started)) (omega arith)) (onward-later channels old bits some n (is .started) more)
+
+      by : (k : ℕ) → k < n + 1 → k < length old → Dec (k < n) → getD (set out n x) k 0 ≡ onwardAt channels old k
       by k h l (yes before) = getD-set-other out n k x 0 (λ z. omega arith) ∙ is .front k before l
-      by k h l (no here) =
-          let last : k ≡ n = omega arith in rw last (getD-set-same out n x 0 (omega (arith, is .same)) ∙ e)
+      by k h l (no after) = let last : k ≡ n = omega arith in rw last (getD-set-same out n x 0 (omega (arith, is .same)) ∙ here)
 
-  pub spread-ended : length old ≤ n → SpreadInto channels true old out
-  spread-ended l =
-      ext-getD 0 out (table (length old) (spreadAt channels old)) (is .same ∙ sym (length-table (length old) (spreadAt channels old)))
-      (λ i h. is .front i (omega (arith, is .same)) (omega (arith, is .same)) ∙ sym (table-at (length old) (spreadAt channels old) i (omega (arith, is .same))))
-
-  -- several channels: what is read back
-  pub several-next : Bits old → 0 < channels → channels ≤ n → n < length old → (x : ℕ) → x ≡ larger (getD out n 0) (getD out (n - channels) 0) → x ≡ spreadAt channels old n
-  several-next bits some d more x e =
-      e ∙ rw (is .rest n (omega arith), is .front (n - channels) (omega arith) (omega arith)) (spread-later channels old bits some n d more)
-
--- one channel: the mark that is carried into sample n
-pub carried : List ℕ → ℕ → ℕ
-carried old zero = 0
-carried old (suc n) = spreadAt 1 old n
-
-pub carried-none : (old : List ℕ) → carried old 0 ≡ 0
-unfolding carried
-carried-none old = refl
-
-pub carried-on : (old : List ℕ) (n : ℕ) → carried old (n + 1) ≡ spreadAt 1 old n
-unfolding carried
-carried-on old n = rw add-one
-
-pub spreading-start : (old : List ℕ) → Spreading 1 old 0 old
-spreading-start old = record { same = refl; front = λ k h l. absurd (omega arith); rest = λ k h. refl }
-
-pub one-next : (old : List ℕ) (n : ℕ) (out : List ℕ) (is : Spreading 1 old n out) → Bits old → n < length old → (carry x : ℕ) → carry ≡ carried old n → x ≡ larger (getD out n 0) carry → x ≡ spreadAt 1 old n
-unfolding carried
-one-next old zero out is bits more carry x c e =
-    let none : larger (getD old 0 0) 0 ≡ getD old 0 0 = rw (le-ltb (getD old 0 0) 0 (omega arith)) in
-    e ∙ rw (c, is .rest 0 (omega arith)) (none ∙ spread-first 1 true old bits 0 (first-alone (strip (length old) 1 1) true (omega arith)))
-one-next old (suc n) out is bits more carry x c e =
-    let back : suc n - 1 ≡ n = omega arith in
-    e ∙ rw (c, is .rest (suc n) (omega arith)) (rw back at (spread-later 1 old bits (omega arith) (suc n) (omega arith) more))
+  pub onward-ended : length old ≤ n → OnwardInto channels old out
+  onward-ended l =
+      ext-getD 0 out (table (length old) (onwardAt channels old)) (is .same ∙ sym (length-table (length old) (onwardAt channels old)))
+      (λ i h. is .front i (omega (arith, is .same)) (omega (arith, is .same)) ∙ sym (table-at (length old) (onwardAt channels old) i (omega (arith, is .same))))
 
 -- marks in a list are read back
-pub table-bits : (n : ℕ) (f : ℕ → Bool) → Bits (table n (λ k. markByte (f k)))
-table-bits n f i = by (decLt i n)
-  where
-    by : Dec (i < n) → getD (table n (λ k. markByte (f k))) i 0 ≤ 1
-    by (yes l) = rw (table-at n (λ k. markByte (f k)) i l) (mark-small (f i))
-    by (no m) = omega (arith, past-end (table n (λ k. markByte (f k))) i (omega (arith, length-table n (λ k. markByte (f k)))))
+table-bits : (n : ℕ) (f : ℕ → Bool) → Bits (table n (λ k. markByte (f k)))
+table-bits n f = each-table (λ x. x ≤ 1) (omega arith) n (λ k. markByte (f k)) (λ k. mark-small (f k))
+
+pub written-bits : (n : ℕ) (f : ℕ → Bool) (new : List ℕ) → new ≡ table n (λ k. markByte (f k)) → Bits new
+written-bits n f new e = rw e (table-bits n f)
 
 read-mark : (b : Bool) → not (eqb (markByte b) 0) ≡ b
 read-mark true = refl
@@ -182,14 +145,28 @@ counted-join n zero f = let none : n + 0 ≡ n = omega arith in rw none (omega a
 counted-join n (suc m) f =
     let more : n + suc m ≡ suc (n + m) = omega arith in rw more (omega (arith, counted-join n m f))
 
--- a part of a list of marks, and how many there are up to its end
-pub part-bits : (marks : List ℕ) → Bits marks → (a e : ℕ) → a ≤ e → e ≤ length marks → Bits (part a e marks)
-part-bits marks bits a e h room i = by (decLt i (e - a))
-  where
-    by : Dec (i < e - a) → getD (part a e marks) i 0 ≤ 1
-    by (yes l) = rw (part-at a e marks i l) (bits (a + i))
-    by (no m) = omega (arith, past-end (part a e marks) i (omega (arith, length-part a e marks h room)))
+pub counted-table : (n : ℕ) (f : ℕ → Bool) (count : ℕ) (new : List ℕ) → new ≡ table n (λ k. markByte (f k)) → count ≡ counted (length new) (damaged new) → count ≡ counted n f
+counted-table n f count new all c =
+    c
+    ∙ ap (λ (m : ℕ). counted m (damaged new)) (ap length all ∙ length-table n _)
+    ∙ counted-same n (damaged new) f (λ k h. ap (λ (l : List ℕ). damaged l k) all ∙ table-damaged n f k h)
 
+-- 0 up to a place and 1 from there on
+pub since-before : (from n : ℕ) → n < from → since from n ≡ false
+since-before from n h = ap not (lt-ltb n from h)
+
+pub since-later : (from n : ℕ) → from ≤ n → since from n ≡ true
+since-later from n h = ap not (le-ltb n from h)
+
+pub counted-since : (n from : ℕ) → counted n (since from) ≡ n - from
+counted-since zero from = omega arith
+counted-since (suc n) from = by (decLt n from) (counted-since n from)
+  where
+    by : Dec (n < from) → counted n (since from) ≡ n - from → counted (suc n) (since from) ≡ suc n - from
+    by (yes l) before = rw (since-before from n l) (omega arith)
+    by (no m) before = rw (since-later from n (omega arith)) (omega arith)
+
+-- how many marks there are up to the end of a part
 pub part-count : (marks : List ℕ) (a e : ℕ) → a ≤ e → e ≤ length marks → counted a (damaged marks) + counted (length (part a e marks)) (damaged (part a e marks)) ≡ counted e (damaged marks)
 part-count marks a e h room =
     let end : a + (e - a) ≡ e = omega arith in

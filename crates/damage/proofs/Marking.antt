@@ -2,33 +2,30 @@
 -- these, not the definitions. Assumes nothing.
 use mathlib.Core.Path.{_≡_, refl, sym, ap, _∙_}
 use mathlib.Core.Bool.{Bool, true, false, not, _||_, or-false}
-use mathlib.Core.List.{List, [], _∷_}
+use mathlib.Core.List.{List}
 use Prim.Native.Nat.{ℕ, zero, suc, _+_, _-_, _/_, _%_, _≤_, _<_}
 use native.Mathlib.Nat.{mul-one}
 use native.Mathlib.Decide.{decLt}
 use native.Mathlib.Omega.{arith}
 use borrow.Author.Tests.{eqb-true, eqb-false, eq-eqb, ne-eqb, not-true, not-false}
 use lib.Dec.{eqb, ltb}
-use lib.ListN.{length, getD}
+use lib.ListN.{getD}
 use Rattle.answer.specs.Outcome.{pick}
-use Rattle.words.specs.Digits.{value}
 use Rattle.words.specs.Word.{wordAt}
 use Rattle.swaps.proofs.Mirror.{into-group}
 use Rattle.samples.specs.Sample.{Strip, alone}
 use Rattle.samples.proofs.Sums.{neither, in-row, not-alone, first-alone}
 use Rattle.damage.specs.Marks.{damaged, anyBelow, struckAt, struck, tainted, marked, markByte}
-use Rattle.damage.specs.Passes.{markOf}
-
--- past a list's end stands 0
-pub past-end : (l : List ℕ) (i : ℕ) → length l ≤ i → getD l i 0 ≡ 0
-past-end [] i h = refl
-past-end (x ∷ l) zero h = absurd (omega arith)
-past-end (x ∷ l) (suc i) h = past-end l i (omega arith)
+use Rattle.damage.proofs.General.{value-none, none-value}
 
 -- a mark is 0 or 1
 pub mark-small : (b : Bool) → markByte b ≤ 1
 mark-small true = omega arith
 mark-small false = omega arith
+
+pub mark-hurt : (b : Bool) → (markByte b ≡ 0 → ⊥) → b ≡ true
+mark-hurt true h = refl
+mark-hurt false h = absurd (h refl)
 
 any-none : (n : ℕ) (f : ℕ → Bool) → anyBelow n f ≡ false → (p : ℕ) → p < n → f p ≡ false
 any-none zero f e p h = absurd (omega arith)
@@ -90,34 +87,23 @@ pub struck-one : (damage : List ℕ) (n : ℕ) → struck 1 damage n ≡ damaged
 unfolding struckAt
 struck-one damage n = ap (damaged damage) (omega (arith, mul-one n))
 
--- a word is 0 exactly if all its bytes are
-value-sound : (n : ℕ) (f : ℕ → ℕ) → ((p : ℕ) → p < n → f p ≡ 0) → value 256 n f ≡ 0
-value-sound zero f e = refl
-value-sound (suc n) f e = rw (e 0 (omega arith), value-sound n (λ p. f (suc p)) (λ p h. e (suc p) (omega arith)))
-
-sound-value : (n : ℕ) (f : ℕ → ℕ) → value 256 n f ≡ 0 → (p : ℕ) → p < n → f p ≡ 0
-sound-value zero f e p h = absurd (omega arith)
-sound-value (suc n) f e zero h = omega arith
-sound-value (suc n) f e (suc p) h = sound-value n (λ q. f (suc q)) (omega arith) p (omega arith)
-
+-- a word is 0 exactly if none of its bytes is damaged
 pub struck-word : (width : ℕ) (damage : List ℕ) (at : ℕ) → not (eqb (wordAt damage at width true) 0) ≡ struckAt width damage at
 struck-word width damage at = by (struckAt width damage at) refl
   where
     by : (b : Bool) → struckAt width damage at ≡ b → not (eqb (wordAt damage at width true) 0) ≡ b
     by true e =
         let there = struck-where width damage at e in
-        ap not (ne-eqb (wordAt damage at width true) 0 (λ z. damaged-hurt damage (at + there .place) (there .holds) (sound-value width (λ p. getD damage (at + p) 0) z (there .place) (there .below))))
-    by false e = ap not (eq-eqb (wordAt damage at width true) 0 (value-sound width (λ p. getD damage (at + p) 0) (unstruck width damage at e)))
+        ap not (ne-eqb (wordAt damage at width true) 0 (λ z. damaged-hurt damage (at + there .place) (there .holds) (none-value width (λ p. getD damage (at + p) 0) z (there .place) (there .below))))
+    by false e = ap not (eq-eqb (wordAt damage at width true) 0 (value-none width (λ p. getD damage (at + p) 0) (unstruck width damage at e)))
 
--- the mark of a word, and of a sample's own word
-pub mark-hurt : (word : ℕ) → (word ≡ 0 → ⊥) → markOf word ≡ 1
-mark-hurt word h = ap (λ (b : Bool). markByte (not b)) (ne-eqb word 0 h)
+-- the mark of a sample's own word
+module _ (width : ℕ) (damage : List ℕ) (at word : ℕ) (is : word ≡ wordAt damage at width true) where
+  pub word-hurt : (word ≡ 0 → ⊥) → 1 ≡ markByte (struckAt width damage at)
+  word-hurt h = sym (ap (λ (b : Bool). markByte (not b)) (ne-eqb word 0 h)) ∙ ap (λ (x : ℕ). markByte (not (eqb x 0))) is ∙ ap markByte (struck-word width damage at)
 
-pub mark-sound : (word : ℕ) → word ≡ 0 → markOf word ≡ 0
-mark-sound word h = ap (λ (b : Bool). markByte (not b)) (eq-eqb word 0 h)
-
-pub mark-word : (width : ℕ) (damage : List ℕ) (at r word : ℕ) → r ≡ markOf word → word ≡ wordAt damage at width true → r ≡ markByte (struckAt width damage at)
-mark-word width damage at r word e w = e ∙ ap markOf w ∙ ap markByte (struck-word width damage at)
+  pub word-sound : word ≡ 0 → 0 ≡ markByte (struckAt width damage at)
+  word-sound h = sym (ap (λ (b : Bool). markByte (not b)) (eq-eqb word 0 h)) ∙ ap (λ (x : ℕ). markByte (not (eqb x 0))) is ∙ ap markByte (struck-word width damage at)
 
 -- going back further than n changes nothing
 enough : (g : Strip) (predict : Bool) (some : 0 < g .channels) (w : ℕ → Bool) (a b n : ℕ) → n ≤ a → n ≤ b → tainted g predict w a n ≡ tainted g predict w b n
@@ -126,6 +112,14 @@ enough g predict some w zero (suc b) n ha hb = let none : n ≡ 0 = omega arith 
 enough g predict some w (suc a) zero n ha hb = let none : n ≡ 0 = omega arith in rw (none, first-alone g predict some, or-false (w 0))
 enough g predict some w (suc a) (suc b) n ha hb =
     ap (λ (x : Bool). w n || pick (alone g predict n) false x) (enough g predict some w a b (n - g .channels) (omega arith) (omega arith))
+
+untainted : (g : Strip) (predict : Bool) (w : ℕ → Bool) (more n : ℕ) → ((k : ℕ) → k ≤ n → w k ≡ false) → tainted g predict w more n ≡ false
+untainted g predict w zero n e = e n (omega arith)
+untainted g predict w (suc more) n e = rw (e n (omega arith), untainted g predict w more (n - g .channels) (λ k h. e k (omega arith))) (either (alone g predict n))
+  where
+    either : (b : Bool) → pick b false false ≡ false
+    either true = refl
+    either false = refl
 
 module _ (g : Strip) (predict : Bool) (damage : List ℕ) where
   pub marked-alone : (n : ℕ) → alone g predict n ≡ true → marked g predict damage n ≡ struck (g .width) damage n
@@ -138,6 +132,16 @@ module _ (g : Strip) (predict : Bool) (damage : List ℕ) where
   marked-later zero some e = absurd (omega (arith, not-alone g predict 0 e))
   marked-later (suc n) some e =
       rw e (ap (λ (x : Bool). struck (g .width) damage (suc n) || x) (enough g predict some (struck (g .width) damage) n (suc n - g .channels) (suc n - g .channels) (omega arith) (omega arith)))
+
+  -- a sample that is struck is marked, and with none struck up to n none is
+  pub struck-marked : (n : ℕ) → struck (g .width) damage n ≡ true → marked g predict damage n ≡ true
+  unfolding marked
+  struck-marked zero e = e
+  struck-marked (suc n) e = rw e
+
+  pub none-marked : (n : ℕ) → ((k : ℕ) → k ≤ n → struck (g .width) damage k ≡ false) → marked g predict damage n ≡ false
+  unfolding marked
+  none-marked n e = untainted g predict (struck (g .width) damage) n n e
 
 -- two rows, of one strip or of two, with as many samples and channels, and struck alike: i and j are where they begin, counted in samples
 module _ (g h : Strip) (some : 0 < g .channels) (channels : g .channels ≡ h .channels) (per : g .row / g .width ≡ h .row / h .width) (predict : Bool) (s t : List ℕ) (i j : ℕ) (hi : i % (g .row / g .width) ≡ 0) (hj : j % (g .row / g .width) ≡ 0) (own : (m : ℕ) → m < g .row / g .width → struck (g .width) s (i + m) ≡ struck (h .width) t (j + m)) where

@@ -17,11 +17,11 @@ use Rattle.damage.specs.declared.Counted.{Counted}
 use Rattle.damage.specs.declared.Counted.the-variants as Counted-is
 use Rattle.damage.specs.Marks.{marked, markByte, counted}
 use Rattle.damage.specs.Promises.{countedOutcome, samplesOf, markFaults, Marked}
-use Rattle.damage.specs.Passes.{StripFits, MarkedInto}
+use Rattle.damage.specs.Passes.{StripMarksFit, MarkedInto}
 use Rattle.damage.proofs.Exact.{there, marked-differ, differ-marked}
 
 -- a strip without a fault, and the front of the buffer, where there is room
-pub front-fits : (damage : List ℕ) (g : Strip) (old : List ℕ) → Sound (stripFaults (length damage) g) → samplesOf damage g ≤ length old → StripFits damage g (part 0 (samplesOf damage g) old)
+pub front-fits : (damage : List ℕ) (g : Strip) (old : List ℕ) → Sound (stripFaults (length damage) g) → samplesOf damage g ≤ length old → StripMarksFit damage g (part 0 (samplesOf damage g) old)
 front-fits damage g old s room =
     let good = good-checked (length damage) g s in
     let long : length (part 0 (samplesOf damage g) old) ≡ samplesOf damage g = length-part 0 (samplesOf damage g) old (omega arith) room ∙ omega arith in

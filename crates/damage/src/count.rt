@@ -1,9 +1,10 @@
 // How many marks there are. A block's count fits a byte, so that the compiler adds many marks at once.
+use crate::blocks;
 ghost use mathlib.Core.Path.{_≡_};
-ghost use Prim.Native.Nat.{_≤_, _<_};
+ghost use Prim.Native.Nat.{_≤_};
 ghost use lib.ListN.{length};
 ghost use Rattle.damage.specs.Marks.{damaged, counted};
-ghost use Rattle.damage.specs.Passes.{Bits, BlockEnd};
+ghost use Rattle.damage.specs.Passes.{Bits};
 
 fn few(marks: &[u8]) -> u8
     requires { ⌜ Bits (now marks) × (length (now marks) ≤ 255) ⌝ }
@@ -18,13 +19,6 @@ fn few(marks: &[u8]) -> u8
     sum
 }
 
-fn block_end(n: usize, all: usize) -> usize
-    requires { ⌜ n < all ⌝ }
-    ensures { λ r. ⌜ BlockEnd n all r ⌝ }
-{
-    if all - n < 255 { all } else { n + 255 }
-}
-
 pub(crate) fn total(marks: &[u8]) -> usize
     requires { ⌜ Bits (now marks) ⌝ }
     ensures { λ r. ⌜ r ≡ counted (length (now (marks .entry))) (damaged (now (marks .entry))) ⌝ }
@@ -32,7 +26,7 @@ pub(crate) fn total(marks: &[u8]) -> usize
     let mut sum: usize = 0;
     let mut n: usize = 0;
     while n < marks.len() {
-        let end = block_end(n, marks.len());
+        let end = blocks::block_end(n, marks.len(), 224);
         let more = few(&marks[n..end]) as usize;
         sum += more;
         n = end;

@@ -1,12 +1,17 @@
+// Damage marks: which samples of a strip the damaged bytes can change, with prediction or without it.
+mod blocks;
 mod count;
+mod fill;
+mod first;
+mod onward;
 mod own;
-mod spread;
+mod pixel;
 
 use answer::Done;
 use answer::Refusal;
 ghost use mathlib.Core.Bool.{true};
 ghost use Rattle.samples.specs.Sample.{strip};
-ghost use Rattle.damage.specs.Passes.{RowFits, RowMarked, StripFits, MarkedInto};
+ghost use Rattle.damage.specs.Passes.{MarksFit, RowMarked, StripMarksFit, MarkedInto};
 ghost use Rattle.damage.specs.Promises.{Marked};
 
 // The answer of `marks`: how many samples are marked.
@@ -15,13 +20,19 @@ pub enum Counted {
     Refused(Refusal),
 }
 
-fn mark_row(damage: &[u8], channels: usize, width: usize, predict: bool, marks: &mut [u8]) -> usize
-    requires { ⌜ RowFits (now damage) channels width (now marks) ⌝ }
-    ensures { λ r. ⌜ RowMarked (now (damage .entry)) channels width predict (now (marks .entry)) r (now (marks .exit)) ⌝ }
+// A predicted row. Where its damage begins with a hit in every channel, the marks are 0 up to there and 1 from there on.
+fn mark_row(damage: &[u8], channels: usize, width: usize, marks: &mut [u8]) -> usize
+    requires { ⌜ MarksFit (now damage) channels width (now marks) ⌝ }
+    ensures { λ r. ⌜ RowMarked (now (damage .entry)) channels width (now (marks .entry)) r (now (marks .exit)) ⌝ }
 {
-    own::own(damage, width, marks);
-    spread::spread(channels, predict, marks);
-    count::total(marks)
+    let at = first::first_damaged(damage);
+    if pixel::pixel_struck(damage, at, channels, width) {
+        fill::mark_from(first::sample_of(at, width), marks)
+    } else {
+        own::own(damage, width, marks);
+        onward::onward(channels, marks);
+        count::total(marks)
+    }
 }
 
 fn mark_rows(
@@ -31,7 +42,7 @@ fn mark_rows(
     width: usize,
     marks: &mut [u8],
 ) -> usize
-    requires { ⌜ StripFits (now damage) (strip «row_bytes» channels width) (now marks) ⌝ }
+    requires { ⌜ StripMarksFit (now damage) (strip «row_bytes» channels width) (now marks) ⌝ }
     ensures { λ r. ⌜ MarkedInto (now (damage .entry)) (strip «row_bytes» channels width) true (now (marks .entry)) r (now (marks .exit)) ⌝ }
 {
     let row_marks = row_bytes / width;
@@ -41,7 +52,7 @@ fn mark_rows(
     while at < damage.len() {
         let end = at + row_bytes;
         let last = n + row_marks;
-        let more = mark_row(&damage[at..end], channels, width, true, &mut marks[n..last]);
+        let more = mark_row(&damage[at..end], channels, width, &mut marks[n..last]);
         count += more;
         at = end;
         n = last;
@@ -57,13 +68,14 @@ fn mark_strip(
     predict: bool,
     marks: &mut [u8],
 ) -> usize
-    requires { ⌜ StripFits (now damage) (strip «row_bytes» channels width) (now marks) ⌝ }
+    requires { ⌜ StripMarksFit (now damage) (strip «row_bytes» channels width) (now marks) ⌝ }
     ensures { λ r. ⌜ MarkedInto (now (damage .entry)) (strip «row_bytes» channels width) predict (now (marks .entry)) r (now (marks .exit)) ⌝ }
 {
     if predict {
         mark_rows(damage, row_bytes, channels, width, marks)
     } else {
-        mark_row(damage, channels, width, false, marks)
+        own::own(damage, width, marks);
+        count::total(marks)
     }
 }
 

@@ -1,46 +1,46 @@
-// The marks of samples from their own bytes, for each width: the bytes of a sample are read in a straight line and joined to one word.
+// The marks of samples from their own bytes. The bytes of a sample are read in a straight line, byte p at `at + p`, as a word's definition has
+// them, and joined to one word, which is 0 exactly if they all are.
 ghost use mathlib.Core.Path.{_≡_};
 ghost use mathlib.Core.Bool.{true};
 ghost use Prim.Native.Nat.{_+_, _≤_};
 ghost use lib.ListN.{length};
 ghost use Rattle.words.specs.Promises.{served};
+ghost use Rattle.words.specs.Word.{wordAt};
 ghost use Rattle.damage.specs.Marks.{markByte, struckAt};
-ghost use Rattle.damage.specs.Passes.{markOf, OneEach, OwnInto};
+ghost use Rattle.damage.specs.Passes.{OneEach, OwnInto};
 
-// 0 for a word of sound bytes, 1 for any other.
-fn mark(word: u64) -> u8
-    ensures { λ r. ⌜ r ≡ markOf word ⌝ }
-{
-    if word != 0 { 1 } else { 0 }
-}
-
-fn mark1(damage: &[u8], at: usize) -> u8
+fn word1(damage: &[u8], at: usize) -> u8
     requires { ⌜ at + 1 ≤ length (now damage) ⌝ }
-    ensures { λ r. ⌜ r ≡ markByte (struckAt 1 (now (damage .entry)) at) ⌝ }
+    ensures { λ r. ⌜ r ≡ wordAt (now (damage .entry)) at 1 true ⌝ }
 {
-    mark(damage[at] as u64)
+    damage[at + 0]
 }
 
-fn mark2(damage: &[u8], at: usize) -> u8
+fn word2(damage: &[u8], at: usize) -> u16
     requires { ⌜ at + 2 ≤ length (now damage) ⌝ }
-    ensures { λ r. ⌜ r ≡ markByte (struckAt 2 (now (damage .entry)) at) ⌝ }
+    ensures { λ r. ⌜ r ≡ wordAt (now (damage .entry)) at 2 true ⌝ }
 {
-    mark(words::join2(damage[at], damage[at + 1]) as u64)
+    words::join2(damage[at + 0], damage[at + 1])
 }
 
-fn mark4(damage: &[u8], at: usize) -> u8
+fn word4(damage: &[u8], at: usize) -> u32
     requires { ⌜ at + 4 ≤ length (now damage) ⌝ }
-    ensures { λ r. ⌜ r ≡ markByte (struckAt 4 (now (damage .entry)) at) ⌝ }
+    ensures { λ r. ⌜ r ≡ wordAt (now (damage .entry)) at 4 true ⌝ }
 {
-    mark(words::join4(damage[at], damage[at + 1], damage[at + 2], damage[at + 3]) as u64)
+    words::join4(
+        damage[at + 0],
+        damage[at + 1],
+        damage[at + 2],
+        damage[at + 3],
+    )
 }
 
-fn mark8(damage: &[u8], at: usize) -> u8
+fn word8(damage: &[u8], at: usize) -> u64
     requires { ⌜ at + 8 ≤ length (now damage) ⌝ }
-    ensures { λ r. ⌜ r ≡ markByte (struckAt 8 (now (damage .entry)) at) ⌝ }
+    ensures { λ r. ⌜ r ≡ wordAt (now (damage .entry)) at 8 true ⌝ }
 {
-    mark(words::join8(
-        damage[at],
+    words::join8(
+        damage[at + 0],
         damage[at + 1],
         damage[at + 2],
         damage[at + 3],
@@ -48,72 +48,59 @@ fn mark8(damage: &[u8], at: usize) -> u8
         damage[at + 5],
         damage[at + 6],
         damage[at + 7],
-    ))
+    )
 }
 
-fn own1(damage: &[u8], marks: &mut [u8])
-    requires { ⌜ OneEach (now damage) 1 (now marks) ⌝ }
-    ensures { λ r. ⌜ OwnInto (now (damage .entry)) 1 (now (marks .entry)) (now (marks .exit)) ⌝ }
+fn word(damage: &[u8], at: usize, width: usize) -> u64
+    requires { ⌜ (served width ≡ true) × (at + width ≤ length (now damage)) ⌝ }
+    ensures { λ r. ⌜ r ≡ wordAt (now (damage .entry)) at width true ⌝ }
+{
+    if width == 1 {
+        word1(damage, at) as u64
+    } else if width == 2 {
+        word2(damage, at) as u64
+    } else if width == 4 {
+        word4(damage, at) as u64
+    } else {
+        word8(damage, at)
+    }
+}
+
+// The mark of the sample at a place.
+pub(crate) fn mark_at(damage: &[u8], at: usize, width: usize) -> u8
+    requires { ⌜ (served width ≡ true) × (at + width ≤ length (now damage)) ⌝ }
+    ensures { λ r. ⌜ r ≡ markByte (struckAt width (now (damage .entry)) at) ⌝ }
+{
+    if word(damage, at, width) != 0 { 1 } else { 0 }
+}
+
+fn own_of(damage: &[u8], width: usize, marks: &mut [u8])
+    requires { ⌜ (served width ≡ true) × OneEach (now damage) width (now marks) ⌝ }
+    ensures { λ r. ⌜ OwnInto (now (damage .entry)) width (now (marks .entry)) (now (marks .exit)) ⌝ }
 {
     let mut at: usize = 0;
     let mut n: usize = 0;
     while n < marks.len() {
-        marks[n] = mark1(damage, at);
-        at += 1;
+        marks[n] = mark_at(damage, at, width);
+        at += width;
         n += 1;
     }
 }
 
-fn own2(damage: &[u8], marks: &mut [u8])
-    requires { ⌜ OneEach (now damage) 2 (now marks) ⌝ }
-    ensures { λ r. ⌜ OwnInto (now (damage .entry)) 2 (now (marks .entry)) (now (marks .exit)) ⌝ }
-{
-    let mut at: usize = 0;
-    let mut n: usize = 0;
-    while n < marks.len() {
-        marks[n] = mark2(damage, at);
-        at += 2;
-        n += 1;
-    }
-}
-
-fn own4(damage: &[u8], marks: &mut [u8])
-    requires { ⌜ OneEach (now damage) 4 (now marks) ⌝ }
-    ensures { λ r. ⌜ OwnInto (now (damage .entry)) 4 (now (marks .entry)) (now (marks .exit)) ⌝ }
-{
-    let mut at: usize = 0;
-    let mut n: usize = 0;
-    while n < marks.len() {
-        marks[n] = mark4(damage, at);
-        at += 4;
-        n += 1;
-    }
-}
-
-fn own8(damage: &[u8], marks: &mut [u8])
-    requires { ⌜ OneEach (now damage) 8 (now marks) ⌝ }
-    ensures { λ r. ⌜ OwnInto (now (damage .entry)) 8 (now (marks .entry)) (now (marks .exit)) ⌝ }
-{
-    let mut at: usize = 0;
-    let mut n: usize = 0;
-    while n < marks.len() {
-        marks[n] = mark8(damage, at);
-        at += 8;
-        n += 1;
-    }
-}
-
+// Each arm knows its width, so that the compiler makes a loop of each.
 pub(crate) fn own(damage: &[u8], width: usize, marks: &mut [u8])
     requires { ⌜ (served width ≡ true) × OneEach (now damage) width (now marks) ⌝ }
     ensures { λ r. ⌜ OwnInto (now (damage .entry)) width (now (marks .entry)) (now (marks .exit)) ⌝ }
 {
     if width == 1 {
-        own1(damage, marks);
+        own_of(damage, width, marks)
     } else if width == 2 {
-        own2(damage, marks);
+        own_of(damage, width, marks)
     } else if width == 4 {
-        own4(damage, marks);
+        own_of(damage, width, marks)
+    } else if width == 8 {
+        own_of(damage, width, marks)
     } else {
-        own8(damage, marks);
+        own_of(damage, width, marks)
     }
 }

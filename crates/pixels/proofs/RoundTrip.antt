@@ -92,10 +92,10 @@ module _ (l : RasterLayout) (file : List ℕ) where
     rendered-sound = done-sound (renderFaults l file raw old) tt tt (sym (r .answers))
 
     record-held : Sound (recordFaults l)
-    record-held = sound-front (recordFaults l) (drawFaults l file raw old) rendered-sound
+    record-held = sound-front (recordFaults l) (drawFaults l (length file) (length raw) (length old)) rendered-sound
 
-    draw-sound : Sound (drawFaults l file raw old)
-    draw-sound = sound-back (recordFaults l) (drawFaults l file raw old) rendered-sound
+    draw-sound : Sound (drawFaults l (length file) (length raw) (length old))
+    draw-sound = sound-back (recordFaults l) (drawFaults l (length file) (length raw) (length old)) rendered-sound
 
     rendered-at : (k : ℕ) → k < l .«output_len» → getD out k 0 ≡ converted l file raw k
     rendered-at = front-at (l .«output_len») (converted l file raw) out (picture-front l file raw old out r)

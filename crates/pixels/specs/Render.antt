@@ -75,17 +75,17 @@ converted l file raw k =
     pick (l .fields .palette) (mapByte l file (k % 3) (paletteIndex l (k / 3 % l .fields .w) (source l raw k)))
     (pick (eqb (l .fields .slots) 8) (bilevelByte (l .fields .white) (k % l .fields .w) (source l raw k)) (plainByte l raw k))
 
--- document 01's order
-abbrev pub drawFaults : RasterLayout → List ℕ → List ℕ → List ℕ → List Fault
-drawFaults l file raw old =
+-- document 01's order, of a file part, planes and a picture so long
+abbrev pub drawFaults : RasterLayout → ℕ → ℕ → ℕ → List Fault
+drawFaults l file raw out =
     unsupported (eqb (l .fields .bytes) 8)
-    ∷ truncated (l .fields .palette && ltb (length file) (l .fields .map + 6 * l .colors))
-    ∷ truncated (ltb (length raw) (l .«scratch_len»))
-    ∷ outputTooSmall (ltb (length old) (l .«output_len»))
+    ∷ truncated (l .fields .palette && ltb file (l .fields .map + 6 * l .colors))
+    ∷ truncated (ltb raw (l .«scratch_len»))
+    ∷ outputTooSmall (ltb out (l .«output_len»))
     ∷ []
 
 abbrev pub renderFaults : RasterLayout → List ℕ → List ℕ → List ℕ → List Fault
-renderFaults l file raw old = recordFaults l ++ drawFaults l file raw old
+renderFaults l file raw old = recordFaults l ++ drawFaults l (length file) (length raw) (length old)
 
 abbrev pub Rendered : RasterLayout → List ℕ → List ℕ → List ℕ → Done → List ℕ → Type 0
 Rendered l file raw old answer new =

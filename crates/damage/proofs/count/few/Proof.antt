@@ -15,29 +15,18 @@ Inv-loop marks sum₀ n₀ sum n = (n ≤ length marks) × (sum ≡ counted n (d
 abbrev μ-loop : tie.MeasureT-loop
 μ-loop marks sum₀ n₀ sum n = length marks - n
 
-loop-holds : tie.Need-loop-holds Inv-loop μ-loop
-loop-holds c = omega arith
-
-shared-slice-read-sum : tie.Need-shared-slice-read-sum Inv-loop μ-loop
-shared-slice-read-sum c = omega arith
-
 add-sum : tie.Need-add-sum Inv-loop μ-loop
 add-sum c =
     let at = c .before .before in
-    let marks = now (at .before .args .marks) in
-    omega (arith, at .before .pre .0 (at .loop .n), at .before .pre .1, at .loop .inv .1, counted-most (at .loop .n) (damaged marks), at .before .good)
-
-add-n : tie.Need-add-n Inv-loop μ-loop
-add-n c = omega arith
-
-loop-less : tie.Need-loop-less Inv-loop μ-loop
-loop-less c = omega arith
+    let start = at .before in
+    omega (arith, start .pre .0 (at .loop .n), start .pre .1, at .loop .inv .1, counted-most (at .loop .n) (damaged (now (start .args .marks))), start .good)
 
 loop-again : tie.Need-loop-again Inv-loop μ-loop
 loop-again c =
     let at = c .before .before in
-    let marks = now (at .before .args .marks) in
-    omega (arith, bit-mark marks (at .before .pre .0) (at .loop .n), counted-next (at .loop .n) (damaged marks), at .loop .inv .1)
+    let start = at .before in
+    let marks = now (start .args .marks) in
+    omega (arith, bit-mark marks (start .pre .0) (at .loop .n), counted-next (at .loop .n) (damaged marks), at .loop .inv .1)
 
 returns : tie.Need-returns Inv-loop μ-loop
 returns c =
@@ -46,4 +35,4 @@ returns c =
     rw all at (at .loop .inv .1)
 
 pub few-spec : {M : Type 1} → statement M
-few-spec = tie.close (tie.spec Inv-loop μ-loop loop-holds shared-slice-read-sum add-sum add-n loop-less loop-again returns)
+few-spec = tie.close (tie.spec Inv-loop μ-loop (λ c. omega arith) (λ c. omega arith) add-sum (λ c. omega arith) (λ c. omega arith) loop-again returns)

@@ -7,7 +7,8 @@ use lib.ListN.{length}
 use denote.Ref.{now}
 use Rattle.answer.proofs.Filling.{length-part}
 use Rattle.damage.specs.Marks.{damaged, counted}
-use Rattle.damage.proofs.Loops.{part-bits, part-count, counted-most}
+use Rattle.damage.proofs.General.{each-part}
+use Rattle.damage.proofs.Loops.{part-count, counted-most}
 use Rattle.damage.proofs.count.total.Statement.{statement}
 use Rattle.damage.proofs.count.total.Tie as tie
 
@@ -17,50 +18,30 @@ Inv-loop marks sum₀ n₀ sum n = (n ≤ length marks) × (sum ≡ counted n (d
 abbrev μ-loop : tie.MeasureT-loop
 μ-loop marks sum₀ n₀ sum n = length marks - n
 
-loop-holds : tie.Need-loop-holds Inv-loop μ-loop
-loop-holds c = omega arith
-
-block-end-requires : tie.Need-block-end-requires Inv-loop μ-loop
-block-end-requires c κs = omega (arith, c .loop-test .taken)
-
-sub-few : tie.Need-sub-few Inv-loop μ-loop
-sub-few c = omega (arith, c .block-end .ensures .on)
-
-part-few-start : tie.Need-part-few-start Inv-loop μ-loop
-part-few-start c = omega (arith, c .block-end .ensures .on)
-
-part-few-end : tie.Need-part-few-end Inv-loop μ-loop
-part-few-end c = omega (arith, c .block-end .ensures .inside)
-
+-- a block's marks
 few-requires : tie.Need-few-requires Inv-loop μ-loop
 few-requires c κs =
-    let at = c .before .before .before in
-    let marks = now (at .before .before .args .marks) in
     let block = c .before .block-end in
+    let at = c .before .before .before in
+    let start = at .before .before in
+    let marks = now (start .args .marks) in
+    let on : at .loop .n ≤ block .result = omega (arith, block .ensures .on) in
     let room : block .result ≤ length marks = omega (arith, block .ensures .inside) in
-    (part-bits marks (at .before .before .pre) (at .loop .n) (block .result) (omega (arith, block .ensures .on)) room, omega (arith, length-part (at .loop .n) (block .result) marks (omega (arith, block .ensures .on)) room, block .ensures .short))
-
-cast-more : tie.Need-cast-more Inv-loop μ-loop
-cast-more c = search needs
+    (each-part (λ x. x ≤ 1) (omega arith) marks (start .pre) (at .loop .n) (block .result) on room, omega (arith, length-part (at .loop .n) (block .result) marks on room, block .ensures .short))
 
 -- the sum with a block's is the count up to its end
-counted-on : (c : tie.After-few Inv-loop μ-loop) → let at = c .before .before .before .before in at .loop .sum + c .few .result ≡ counted (c .before .before .block-end .result) (damaged (now (at .before .before .args .marks)))
+counted-on : (c : tie.After-few Inv-loop μ-loop) → let after = c .before .before in let at = after .before .before in at .loop .sum + c .few .result ≡ counted (after .block-end .result) (damaged (now (at .before .before .args .marks)))
 counted-on c =
-    let at = c .before .before .before .before in
-    let block = c .before .before .block-end in
+    let after = c .before .before in
+    let at = after .before .before in
+    let block = after .block-end in
     omega (arith, at .loop .inv .1, c .few .ensures, part-count (now (at .before .before .args .marks)) (at .loop .n) (block .result) (omega (arith, block .ensures .on)) (omega (arith, block .ensures .inside)))
 
 add-sum : tie.Need-add-sum Inv-loop μ-loop
 add-sum c =
-    let at = c .before .before .before .before in
-    let block = c .before .before .block-end in
-    omega (arith, counted-on c, counted-most (block .result) (damaged (now (at .before .before .args .marks))), block .ensures .inside, at .before .before .good)
-
-loop-less : tie.Need-loop-less Inv-loop μ-loop
-loop-less c = omega (arith, c .before .before .block-end .ensures .on, c .before .before .before .loop-test .taken)
-
-loop-again : tie.Need-loop-again Inv-loop μ-loop
-loop-again c = (omega (arith, c .before .before .block-end .ensures .inside), counted-on c)
+    let after = c .before .before in
+    let start = after .before .before .before .before in
+    omega (arith, counted-on c, counted-most (after .block-end .result) (damaged (now (start .args .marks))), after .block-end .ensures .inside, start .good)
 
 returns : tie.Need-returns Inv-loop μ-loop
 returns c =
@@ -74,14 +55,14 @@ total-spec =
     (tie.spec
     Inv-loop
     μ-loop
-    loop-holds
-    block-end-requires
-    sub-few
-    part-few-start
-    part-few-end
+    (λ c. omega arith)
+    (λ c κs. omega (arith, c .loop-test .taken))
+    (λ c. omega (arith, c .block-end .ensures .on))
+    (λ c. omega (arith, c .block-end .ensures .on))
+    (λ c. omega (arith, c .block-end .ensures .inside))
     few-requires
-    cast-more
+    (λ c. search needs)
     add-sum
-    loop-less
-    loop-again
+    (λ c. let after = c .before .before in omega (arith, after .block-end .ensures .on, after .before .loop-test .taken))
+    (λ c. (omega (arith, c .before .before .block-end .ensures .inside), counted-on c))
     returns)

@@ -1,0 +1,34 @@
+-- `damage::fill::fill` meets its contract: what is written so far is the mark. Assumes nothing.
+use borrow.Author.Needs.{needs}
+use native.Mathlib.Omega.{arith}
+use Prim.Native.Nat.{_-_, _<_}
+use mathlib.Core.Path.{refl}
+use lib.ListN.{length}
+use denote.Ref.{now}
+use Rattle.damage.proofs.General.{FilledTo, filled-none, filled-next, filled-end}
+use Rattle.damage.proofs.fill.fill.Statement.{statement}
+use Rattle.damage.proofs.fill.fill.Tie as tie
+
+abbrev Inv-loop : tie.InvT-loop
+Inv-loop mark marks₀ n₀ marks n = FilledTo (λ k. mark) marks₀ n marks
+
+abbrev μ-loop : tie.MeasureT-loop
+μ-loop mark marks₀ n₀ marks n = length marks₀ - n
+
+-- there is a mark to write
+more : (c : tie.In-loop Inv-loop μ-loop) → let at = c .before in at .loop .n < length (now (at .before .args .marks))
+more c = omega (arith, c .loop-test .taken, c .before .loop .inv .same)
+
+pub fill-spec : {M : Type 1} → statement M
+fill-spec =
+    tie.close
+    (tie.spec
+    Inv-loop
+    μ-loop
+    (λ c. filled-none _ _)
+    (λ c. omega (arith, c .loop-test .taken))
+    (λ c. omega (arith, more c, c .before .before .good))
+    (λ c. omega (arith, more c))
+    (λ c. filled-next (c .before .loop .inv) (more c) _ refl)
+    (λ c. search needs)
+    (λ c. let at = c .before in filled-end (at .loop .inv) (omega (arith, c .loop-test .left, at .loop .inv .same))))
