@@ -16,7 +16,7 @@ use Rattle.swaps.proofs.Mirror.{group-room}
 use Rattle.samples.specs.Sample.{Strip, strip, alone}
 use Rattle.damage.specs.Marks.{struckAt, struck, marked, markByte}
 use Rattle.damage.specs.Passes.{SoundTo, FirstDamaged, Words, PixelStruck, since, MarkedFrom, MarksFit, RowMarked}
-use Rattle.damage.proofs.General.{table-all}
+use Rattle.laws.proofs.Lists.{table-all}
 use Rattle.damage.proofs.Marking.{damaged-hurt, struck-where, marked-later, struck-marked, none-marked}
 use Rattle.damage.proofs.Loops.{since-before, since-later, counted-same, counted-since}
 

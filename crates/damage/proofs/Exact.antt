@@ -19,7 +19,8 @@ use Rattle.samples.specs.Sample.{Strip, alone, wordOf, sample}
 use Rattle.samples.proofs.Sums.{neither, not-alone, sample-alone, sample-later}
 use Rattle.samples.proofs.Undo.{sample-below}
 use Rattle.damage.specs.Marks.{struck, marked, markByte, Alike, Differ}
-use Rattle.damage.proofs.General.{each-table, plus-left, plus-right}
+use Rattle.laws.proofs.Lists.{each-table}
+use Rattle.damage.proofs.General.{plus-left, plus-right}
 use Rattle.damage.proofs.Marking.{mark-small, damaged-hurt, unstruck, struck-where, marked-alone, marked-later}
 
 -- sample n and the one `channels` before it are there

@@ -16,7 +16,7 @@ use Rattle.samples.proofs.Rows.{row-alone}
 use Rattle.damage.specs.declared.Counted.the-variants as Counted-is
 use Rattle.damage.specs.Marks.{damaged, struck, marked, markByte, counted, Alike}
 use Rattle.damage.specs.Promises.{samplesOf, markFaults, Marked}
-use Rattle.damage.proofs.General.{past-end}
+use Rattle.laws.proofs.Lists.{past-end}
 use Rattle.damage.proofs.Marking.{damaged-hurt, undamaged-sound, struck-where, struck-here, struck-same, marked-alone, same-marks}
 use Rattle.damage.proofs.Exact.{there, unmarked-agree}
 use Rattle.damage.proofs.Loops.{counted-same, counted-most}

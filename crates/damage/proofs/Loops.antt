@@ -17,7 +17,7 @@ use Rattle.answer.proofs.Filling.{part, length-part, part-at, length-table, tab
 use Rattle.samples.specs.Sample.{strip, alone}
 use Rattle.damage.specs.Marks.{damaged, struckAt, struck, marked, markByte, counted}
 use Rattle.damage.specs.Passes.{larger, Bits, OneEach, OnwardInto, since}
-use Rattle.damage.proofs.General.{each-table, FilledTo, filled-none, filled-next}
+use Rattle.laws.proofs.Lists.{each-table, FilledTo, filled-none, filled-next}
 use Rattle.damage.proofs.Marking.{mark-small, struck-one, marked-alone, marked-later}
 
 -- the marks that samples have of their own bytes, up to n; `at` is where sample n's bytes begin

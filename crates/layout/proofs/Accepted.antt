@@ -9,7 +9,7 @@ use Rattle.answer.specs.Outcome.{Sound, next, none}
 use Rattle.layout.specs.declared.Fields.{Fields}
 use Rattle.layout.specs.declared.RasterLayout.{RasterLayout}
 use Rattle.layout.specs.Layout.{servedFaults, layoutFaults, agreement, oneTwoEight, eightRule, alphaRule, paletteRule, slotsRule, sideLimit, byteLimit, outputLength}
-use Rattle.layout.proofs.Says.{Says, clash, held, refuted, equal, up, down, both, either, whenever, or-else, restated}
+use Rattle.laws.proofs.Says.{Says, clash, held, refuted, equal, up, down, both, either, whenever, or-else, restated}
 
 abbrev pub OneTwoEight : ℕ → Type 0
 OneTwoEight n = ((n ≡ 1) ⊎ (n ≡ 2)) ⊎ (n ≡ 8)

@@ -1,4 +1,3 @@
-pub mod Says
 pub mod Accepted
 pub mod Sizes
 pub mod Whole

@@ -9,15 +9,11 @@ use lib.Dec.{eqb}
 use Rattle.answer.specs.Outcome.{Sound}
 use Rattle.layout.specs.declared.RasterLayout.{RasterLayout}
 use Rattle.layout.specs.Layout.{byteLimit, encodedWidth, planeChannels, planes, planeLength, scratchLength, outputLength, recordFaults, packed, packedIndex, highFirst, plainIndex, sourceIndex}
-use Rattle.layout.proofs.Says.{Says, clash, refuted, up, equal, both, either}
+use Rattle.laws.proofs.Groups.{grouped}
+use Rattle.laws.proofs.Says.{Says, clash, refuted, up, equal, both, either}
 use Rattle.layout.proofs.Accepted.{Accepted, up-to-eight, bilevel}
 use Rattle.layout.proofs.Sizes.{scratch-within}
 use Rattle.layout.proofs.Whole.{record-accepted, record-agreed}
-
--- item b of group a, in groups of m
-pub grouped : {a b n m : ℕ} → a < n → b < m → a * m + b < n * m
-grouped {a} {b} {n} {m} p q =
-    let next : (a + 1) * m ≤ n * m = mul-le-mul-right m (omega arith) in omega (arith, add-mul a 1 m, one-mul m)
 
 module _ (l : RasterLayout) (s : Sound (recordFaults l)) where
   shown : Accepted (l .fields)

@@ -20,7 +20,7 @@ use Rattle.layout.specs.declared.Checked.the-variants as Checked-is
 use Rattle.layout.specs.declared.Place.the-variants as Place-is
 use Rattle.layout.specs.Layout.{completed, encodedWidth, planeChannels, planes, planeLength, scratchLength, outputLength, colours, eightRule, alphaRule, paletteRule, slotsRule, agreement, layoutFaults, recordFaults, indexFaults, sourceIndex, LayoutChecked, RecordChecked, Indexed}
 use Rattle.layout.specs.Valid.{Valid, Within}
-use Rattle.layout.proofs.Says.{held}
+use Rattle.laws.proofs.Says.{held}
 use Rattle.layout.proofs.Accepted.{Accepted, accepted, all-asked, OneTwoEight, Agreement, agrees}
 use Rattle.layout.proofs.Sizes.{scratch-within}
 use Rattle.layout.proofs.Whole.{recordOf, agreed-whole, record-whole, record-accepted, record-agreed}

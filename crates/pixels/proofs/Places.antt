@@ -11,20 +11,10 @@ use Rattle.layout.specs.declared.RasterLayout.{RasterLayout}
 use Rattle.layout.specs.Layout.{encodedWidth, planeChannels, planes, planeLength, scratchLength, recordFaults, packed, highFirst, plainIndex, sourceIndex}
 use Rattle.layout.proofs.Accepted.{up-to-eight}
 use Rattle.layout.proofs.Whole.{record-accepted, record-agreed}
-use Rattle.layout.proofs.Placed.{grouped, stride-some, output-is, scratch-is, plain-one, row-is, high-first-within}
+use Rattle.laws.proofs.Groups.{grouped, group-of, item-of, positive}
+use Rattle.layout.proofs.Placed.{stride-some, output-is, scratch-is, plain-one, row-is, high-first-within}
 use Rattle.pixels.specs.Render.{rowBytes}
 use Rattle.pixels.specs.Planes.{placeIndex}
-
--- item b of group a, in groups of m
-pub group-of : (a m : ℕ) {b : ℕ} → b < m → (a * m + b) / m ≡ a
-group-of a m {b} h = mul-add-div-right (omega arith) a b ∙ ap (λ (n : ℕ). a + n) (div-eq-of-lt h) ∙ add-zero a
-
-pub item-of : (a m : ℕ) {b : ℕ} → b < m → (a * m + b) % m ≡ b
-item-of a m {b} h = mul-add-mod-self-right a m b ∙ mod-eq-of-lt h
-
-positive : (a b : ℕ) → {n : ℕ} → n < a * b → 0 < b
-positive a zero {n} h = absurd (omega (arith, mul-zero a))
-positive a (suc b) h = omega arith
 
 -- the bytes of a word change places, and change back
 pub high-first-twice : (bytes : ℕ) (le : Bool) (c : ℕ) → highFirst bytes le (highFirst bytes le c) ≡ c
@@ -72,16 +62,16 @@ module _ (l : RasterLayout) (s : Sound (recordFaults l)) (plain : packed l ≡ f
     together-place p c h = rw (together, group-of p (stride l) h, item-of p (stride l) h)
 
   -- byte b of channel c of pixel p, in its channel's plane
-  module _ (xor : l .fields .separate ≡ true) where
+  module _ (apart : l .fields .separate ≡ true) where
     pub apart-source : (p c : ℕ) → c < stride l → sourceIndex l (p * (stride l) + c) ≡ highFirst (l .fields .bytes) (l .fields .le) c / l .fields .bytes * l .«plane_len» + (p * l .fields .bytes + highFirst (l .fields .bytes) (l .fields .le) c % l .fields .bytes)
     unfolding plainIndex
-    apart-source p c h = rw (plain, xor, group-of p (stride l) h, item-of p (stride l) h) (add-assoc _ _ _)
+    apart-source p c h = rw (plain, apart, group-of p (stride l) h, item-of p (stride l) h) (add-assoc _ _ _)
 
     pub apart-place : (p c b : ℕ) → p < l .fields .w * l .fields .h → c < l .fields .ch → b < l .fields .bytes → placeIndex l (c * l .«plane_len» + (p * l .fields .bytes + b)) ≡ p * (stride l) + highFirst (l .fields .bytes) (l .fields .le) (c * l .fields .bytes + b)
     unfolding placeIndex
     apart-place p c b h k j =
-        let inner : p * l .fields .bytes + b < l .«plane_len» = rw (plane-is xor .0) (grouped h j) in
-        rw (xor, group-of c (l .«plane_len») inner, item-of c (l .«plane_len») inner, group-of p (l .fields .bytes) j, item-of p (l .fields .bytes) j)
+        let inner : p * l .fields .bytes + b < l .«plane_len» = rw (plane-is apart .0) (grouped h j) in
+        rw (apart, group-of c (l .«plane_len») inner, item-of c (l .«plane_len») inner, group-of p (l .fields .bytes) j, item-of p (l .fields .bytes) j)
 
   pixel : (k : ℕ) → k < l .«output_len» → k / (stride l) < l .fields .w * l .fields .h
   pixel k h = div-lt-iff-lt-mul (stride-some l s) .1 (omega (arith, output-is l s))

@@ -19,20 +19,13 @@ use Rattle.answer.proofs.Filling.{length-table, table-at, table-same}
 use Rattle.words.specs.Word.{Bytes}
 use Rattle.layout.specs.declared.RasterLayout.{RasterLayout}
 use Rattle.layout.specs.Layout.{recordFaults}
-use Rattle.layout.proofs.Says.{held, up, equal, both, either}
+use Rattle.laws.proofs.Lists.{front-at, own-front}
+use Rattle.laws.proofs.Picks.{picked, not-picked}
+use Rattle.laws.proofs.Says.{held, up, equal, both, either}
 use Rattle.pixels.specs.Render.{source, converted, drawFaults, renderFaults, Rendered}
 use Rattle.pixels.specs.Planes.{twoLevels, written, planeFaults, writeFaults, Written, unpadded}
-use Rattle.pixels.proofs.Undo.{picked, not-picked, render-written, write-rendered}
+use Rattle.pixels.proofs.Undo.{render-written, write-rendered}
 use Rattle.pixels.proofs.Same.{converted-same, written-same}
-
--- the front of a buffer that is a table, byte by byte
-front-at : (n : ℕ) (f : ℕ → ℕ) (x : List ℕ) → take n x ≡ table n f → (i : ℕ) → i < n → getD x i 0 ≡ f i
-front-at n f x e i h = sym (getD-take n x i 0 h) ∙ ap (λ (l : List ℕ). getD l i 0) e ∙ table-at n f i h
-
--- a list's own front
-own-front : (n : ℕ) (x : List ℕ) → n ≤ length x → table n (λ k. getD x k 0) ≡ take n x
-own-front n x h =
-    ext-getD 0 (table n (λ k. getD x k 0)) (take n x) (length-table n _ ∙ sym (length-take n x ∙ omega arith)) (λ i l. let inside : i < n = omega (arith, length-table n (λ k. getD x k 0)) in table-at n _ i inside ∙ sym (getD-take n x i 0 inside))
 
 -- a byte that is one of two levels
 level-of : (b : Bool) {v : ℕ} → v ≡ pick b 0 255 → (v ≡ 0) ⊎ (v ≡ 255)

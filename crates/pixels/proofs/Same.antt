@@ -12,8 +12,9 @@ use Rattle.answer.specs.Outcome.{Sound, pick}
 use Rattle.words.proofs.Digits.{value-same}
 use Rattle.layout.specs.declared.RasterLayout.{RasterLayout}
 use Rattle.layout.specs.Layout.{recordFaults, packed}
+use Rattle.laws.proofs.Groups.{grouped}
 use Rattle.layout.proofs.Whole.{record-accepted}
-use Rattle.layout.proofs.Placed.{grouped, output-is, row-within, source-below}
+use Rattle.layout.proofs.Placed.{output-is, row-within, source-below}
 use Rattle.pixels.specs.Render.{flipped, source, plainByte, converted}
 use Rattle.pixels.specs.Planes.{placeIndex, flips, bilevelBit, column, bilevelPlane, written}
 use Rattle.pixels.proofs.Places.{source-place}

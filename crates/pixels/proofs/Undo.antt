@@ -19,23 +19,19 @@ use Rattle.words.specs.Word.{Bytes}
 use Rattle.words.proofs.Digits.{digit-value, value-same}
 use Rattle.layout.specs.declared.RasterLayout.{RasterLayout}
 use Rattle.layout.specs.Layout.{recordFaults, packed, packedIndex, sourceIndex}
-use Rattle.layout.proofs.Says.{Says, up, equal, both, either}
+use Rattle.laws.proofs.Picks.{picked, not-picked, pick-below}
+use Rattle.laws.proofs.Groups.{grouped, group-of, item-of}
+use Rattle.laws.proofs.Says.{Says, up, equal, both, either}
 use Rattle.layout.proofs.Accepted.{bilevel}
 use Rattle.layout.proofs.Whole.{record-accepted}
-use Rattle.layout.proofs.Placed.{grouped, output-is, scratch-is, packed-one, plain-one, row-within, source-below}
+use Rattle.layout.proofs.Placed.{output-is, scratch-is, packed-one, plain-one, row-within, source-below}
 use Rattle.pixels.specs.Render.{flipped, source, bilevelByte, lastChannel, plainByte, converted}
 use Rattle.pixels.specs.Planes.{placeIndex, flips, bilevelBit, column, bilevelPlane, written, unpadded, twoLevels}
-use Rattle.pixels.proofs.Places.{group-of, item-of, place-source, source-place}
+use Rattle.pixels.proofs.Places.{place-source, source-place}
 
 pub flipped-flipped : (b : Bool) (v : ℕ) → v < 256 → flipped b (flipped b v) ≡ v
 flipped-flipped true v h = omega arith
 flipped-flipped false v h = refl
-
-pub picked : {b : Bool} (x y : ℕ) → b ≡ true → pick b x y ≡ x
-picked x y e = rw e
-
-pub not-picked : {b : Bool} (x y : ℕ) → b ≡ false → pick b x y ≡ y
-not-picked x y e = rw e
 
 -- a byte of two levels and its bit
 pub level-bit : (white : Bool) (v : ℕ) → (v ≡ 0) ⊎ (v ≡ 255) → pick (xor (eqb (bilevelBit white v) 0) white) 0 255 ≡ v
@@ -72,10 +68,6 @@ bit-below white v = by (xor (eqb v 0) white)
     by : (b : Bool) → pick b 0 1 < 2
     by true = omega arith
     by false = omega arith
-
-pick-below : (b : Bool) {v : ℕ} → v < 2 → pick b v 0 < 2
-pick-below true h = h
-pick-below false h = omega arith
 
 module _ (l : RasterLayout) (s : Sound (recordFaults l)) (off : l .fields .palette ≡ false) where
   -- bilevel: column x of row y

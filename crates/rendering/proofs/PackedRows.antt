@@ -15,7 +15,7 @@ use Rattle.answer.proofs.Filling.{part, length-part, part-at, table-same, fille
 use Rattle.words.specs.Word.{wordAt}
 use Rattle.layout.specs.declared.RasterLayout.{RasterLayout}
 use Rattle.layout.specs.Layout.{byteLimit, encodedWidth, colours, packed, packedIndex, sourceIndex}
-use Rattle.layout.proofs.Says.{held}
+use Rattle.laws.proofs.Says.{held}
 use Rattle.layout.proofs.Accepted.{one-two-eight, up-to-eight, bilevel}
 use Rattle.layout.proofs.Whole.{record-accepted, record-agreed}
 use Rattle.layout.proofs.Placed.{scratch-is, packed-one, row-within, scratch-limited}

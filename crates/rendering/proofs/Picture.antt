@@ -6,7 +6,7 @@ use mathlib.Core.Bool.{Bool, true, false, _&&_}
 use borrow.Author.Tests.{ltb-false}
 use lib.Dec.{eqb, ltb}
 use Rattle.answer.specs.Outcome.{pick, Sound}
-use Rattle.layout.proofs.Says.{clash}
+use Rattle.laws.proofs.Says.{clash}
 use Rattle.pixels.proofs.Undo.{not-picked}
 use native.Mathlib.Nat.{add-mul, one-mul, zero-mul, mul-le-mul-right}
 use native.Mathlib.Omega.{arith}

@@ -26,7 +26,7 @@ use Rattle.samples.specs.Sample.{Strip, storedAt}
 use Rattle.samples.specs.Sample as Strips
 use Rattle.samples.specs.Promises.{stripFaults, convertFaults, Converted}
 use Rattle.samples.proofs.Strips.{good-checked, width-fits}
-use Rattle.layout.proofs.Says.{held}
+use Rattle.laws.proofs.Says.{held}
 use Rattle.upstream.specs.Native.{digit, widthOk, RangeOk, modulus, word, converted, Valid, reversed, value}
 use Rattle.upstream.specs.Clause.{Ok, Exactly}
 use Rattle.upstream.proofs.Same.{width-same, ordered-same, word16-same, word-same, modulus-same, converted-same, sound-valid, valid-sound, reversed-same}

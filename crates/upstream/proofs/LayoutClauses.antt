@@ -22,7 +22,7 @@ use Rattle.layout.specs.declared.Checked.{Checked}
 use Rattle.layout.specs.declared.Checked.the-variants as Checked-is
 use Rattle.layout.specs.declared.Place.{Place}
 use Rattle.layout.specs.declared.Place.the-variants as Place-is
-use Rattle.layout.specs.Layout.{given, byteLimit, recordFaults, indexFaults, placeOutcome, LayoutChecked, RecordChecked, Indexed}
+use Rattle.layout.specs.Layout.{byteLimit, recordFaults, indexFaults, placeOutcome, LayoutChecked, RecordChecked, Indexed}
 use Rattle.layout.specs.Layout as Ours
 use Rattle.layout.specs.Valid.{Valid, Within}
 use Rattle.layout.proofs.Placed.{scratch-limited}

@@ -24,7 +24,7 @@ use Rattle.samples.specs.Sample.{Strip, alone, summed, wordOf, storedAt}
 use Rattle.layout.specs.declared.RasterLayout.{RasterLayout}
 use Rattle.layout.specs.Layout as Ours
 use Rattle.layout.specs.Valid.{Valid as LayoutValid, Within}
-use Rattle.layout.proofs.Says.{held}
+use Rattle.laws.proofs.Says.{held}
 use Rattle.layout.proofs.Theorems.{record-valid, valid-accepted, answered-sound}
 use Rattle.pixels.specs.Render as Render
 use Rattle.pixels.specs.Render.{straightened, plainByte}
@@ -206,7 +206,7 @@ record-sound-valid l s = record-valid l (finishing (Ours.recordFaults l) tt s)
 pub valid-record-sound : (l : RasterLayout) → LayoutValid l → Within l → Sound (Ours.recordFaults l)
 valid-record-sound l v t =
     let good = valid-accepted l v t in
-    answered-sound (Ours.l .fields) l (ap done (good .1) ∙ finishing (Ours.layoutFaults (Ours.l .fields)) (Ours.completed (Ours.l .fields)) (good .0))
+    answered-sound (l .fields) l (ap done (good .1) ∙ finishing (Ours.layoutFaults (l .fields)) (Ours.completed (l .fields)) (good .0))
 
 pub layout-valid-same : (l : RasterLayout) → Exactly (Sound (Ours.recordFaults l)) (LayoutValid l × Within l)
 layout-valid-same l = (record-sound-valid l, λ v. valid-record-sound l (v .0) (v .1))

@@ -13,7 +13,7 @@ use Rattle.answer.specs.Table.{table, filled}
 use Rattle.answer.proofs.Filling.{table-at, table-same, length-table, part, length-part, part-filled, length-filled}
 use Rattle.layout.specs.declared.RasterLayout.{RasterLayout}
 use Rattle.layout.specs.Layout.{byteLimit, recordFaults, packed, highFirst}
-use Rattle.layout.proofs.Says.{clash, refuted, up, down, both}
+use Rattle.laws.proofs.Says.{clash, refuted, up, down, both}
 use Rattle.layout.proofs.Accepted.{up-to-eight, alpha-bytes, mapped-together}
 use Rattle.layout.proofs.Whole.{record-accepted}
 use Rattle.layout.proofs.Sizes.{bytes-few}

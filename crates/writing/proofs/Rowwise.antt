@@ -17,7 +17,7 @@ use Rattle.answer.proofs.Filling.{table-same, part, part-at, length-part, part-
 use Rattle.words.proofs.Digits.{value-same}
 use Rattle.layout.specs.declared.RasterLayout.{RasterLayout}
 use Rattle.layout.specs.Layout.{sideLimit, byteLimit, encodedWidth, planeChannels, recordFaults, packed, highFirst}
-use Rattle.layout.proofs.Says.{clash, refuted, up, down, both}
+use Rattle.laws.proofs.Says.{clash, refuted, up, down, both}
 use Rattle.layout.proofs.Accepted.{bilevel, alpha-bytes}
 use Rattle.layout.proofs.Whole.{record-accepted, record-agreed}
 use Rattle.layout.proofs.Sizes.{bytes-few, encoded-side}

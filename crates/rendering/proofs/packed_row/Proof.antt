@@ -2,7 +2,7 @@
 use borrow.Author.Needs.{needs}
 use native.Mathlib.Omega.{arith}
 use mathlib.Core.Logic.{⊎-elim}
-use Rattle.layout.proofs.Says.{clash, up, equal, either}
+use Rattle.laws.proofs.Says.{clash, up, equal, either}
 use Rattle.rendering.proofs.PackedRows.{packed-row-end, packed-limited, palette-rendered, bilevel-rendered}
 use Rattle.rendering.proofs.packed_row.Statement.{statement}
 use Rattle.rendering.proofs.packed_row.Tie as tie

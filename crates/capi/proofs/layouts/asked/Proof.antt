@@ -3,7 +3,7 @@ use borrow.Author.Needs.{needs}
 use mathlib.Core.Path.{refl, sym, subst, _∙_}
 use Rattle.layout.specs.declared.Fields.{Fields}
 use Rattle.layout.specs.Layout.{LayoutChecked}
-use Rattle.layout.proofs.Says.{clash}
+use Rattle.laws.proofs.Says.{clash}
 use Rattle.capi.proofs.layouts.asked.Statement.{statement}
 use Rattle.capi.proofs.layouts.asked.Tie as tie
 

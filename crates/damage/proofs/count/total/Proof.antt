@@ -7,7 +7,7 @@ use lib.ListN.{length}
 use denote.Ref.{now}
 use Rattle.answer.proofs.Filling.{length-part}
 use Rattle.damage.specs.Marks.{damaged, counted}
-use Rattle.damage.proofs.General.{each-part}
+use Rattle.laws.proofs.Lists.{each-part}
 use Rattle.damage.proofs.Loops.{part-count, counted-most}
 use Rattle.damage.proofs.count.total.Statement.{statement}
 use Rattle.damage.proofs.count.total.Tie as tie

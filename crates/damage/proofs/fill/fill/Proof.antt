@@ -5,7 +5,7 @@ use Prim.Native.Nat.{_-_, _<_}
 use mathlib.Core.Path.{refl}
 use lib.ListN.{length}
 use denote.Ref.{now}
-use Rattle.damage.proofs.General.{FilledTo, filled-none, filled-next, filled-end}
+use Rattle.laws.proofs.Lists.{FilledTo, filled-none, filled-next, filled-end}
 use Rattle.damage.proofs.fill.fill.Statement.{statement}
 use Rattle.damage.proofs.fill.fill.Tie as tie
 

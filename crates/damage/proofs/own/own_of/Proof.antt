@@ -4,7 +4,7 @@ use native.Mathlib.Omega.{arith}
 use Prim.Native.Nat.{_+_, _-_, _≤_, _<_}
 use lib.ListN.{length}
 use denote.Ref.{now}
-use Rattle.damage.proofs.General.{filled-end}
+use Rattle.laws.proofs.Lists.{filled-end}
 use Rattle.damage.proofs.Loops.{Owning, owning-none, own-room, own-turned}
 use Rattle.damage.proofs.own.own_of.Statement.{statement}
 use Rattle.damage.proofs.own.own_of.Tie as tie

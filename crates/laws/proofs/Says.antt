@@ -5,7 +5,7 @@ use mathlib.Core.Path.{_≡_, refl, sym}
 use mathlib.Core.Bool.{Bool, true, false, not, _&&_, _||_}
 use mathlib.Core.Logic.{_⊎_, inl, inr}
 use native.Mathlib.Omega.{arith}
-use borrow.Author.Tests.{eq-eqb, eqb-true, eqb-false, ne-eqb, not-true}
+use borrow.Author.Tests.{eq-eqb, eqb-true, not-true}
 use lib.Dec.{eqb}
 
 pub record Says (b : Bool) (P : Type 0) : Type 0 where
@@ -20,17 +20,7 @@ clash t f = absurd (let z : _≡_ {A = ℕ} 0 1 = cc in omega arith)
 pub held : {b : Bool} → b ≡ true → not b ≡ false
 held e = rw e
 
--- a test that was made by a call
-pub kept : {r b : Bool} → r ≡ b → not r ≡ false → not b ≡ false
-kept e h = rw e at h
-
-pub broken : {r b : Bool} → r ≡ b → not r ≡ true → not b ≡ true
-broken e h = rw e at h
-
--- how a function that answers the test is right
-pub proved : {b : Bool} {P : Type 0} → Says b P → P → true ≡ b
-proved s p = sym (s .told p)
-
+-- a test of what does not hold
 pub refuted : {b : Bool} {P : Type 0} → Says b P → (P → ⊥) → false ≡ b
 refuted {b} {P} s n = by b refl
   where
@@ -38,19 +28,8 @@ refuted {b} {P} s n = by b refl
     by true e = absurd (n (s .tells e))
     by false e = sym e
 
--- two tests of facts that give each other are one
-pub alike : {a b : Bool} {P Q : Type 0} → Says a P → Says b Q → (P → Q) → (Q → P) → a ≡ b
-alike {a} {b} {P} {Q} s r to from = by a refl
-  where
-    by : (x : Bool) → a ≡ x → a ≡ b
-    by true e = let t = r .told (to (s .tells e)) in cc
-    by false e = let t = refuted r (λ q. clash (s .told (from q)) e) in cc
-
 pub equal : (a b : ℕ) → Says (eqb a b) (a ≡ b)
 equal a b = record { tells = eqb-true a b; told = eq-eqb a b }
-
-pub differ : (a b : ℕ) → Says (not (eqb a b)) (a ≡ b → ⊥)
-differ a b = record { tells = λ e. eqb-false a b (not-true (eqb a b) e); told = λ n. rw (ne-eqb a b n) }
 
 pub up : (b : Bool) → Says b (b ≡ true)
 up b = record { tells = λ e. e; told = λ e. e }

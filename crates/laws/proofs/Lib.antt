@@ -1,0 +1,4 @@
+pub mod Says
+pub mod Groups
+pub mod Picks
+pub mod Lists

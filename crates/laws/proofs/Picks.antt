@@ -1,0 +1,16 @@
+-- What `pick` comes to once its test is known. Assumes nothing.
+use Prim.Native.Nat.{ℕ, _<_}
+use mathlib.Core.Path.{_≡_}
+use mathlib.Core.Bool.{Bool, true, false}
+use native.Mathlib.Omega.{arith}
+use Rattle.answer.specs.Outcome.{pick}
+
+pub picked : {b : Bool} (x y : ℕ) → b ≡ true → pick b x y ≡ x
+picked x y e = rw e
+
+pub not-picked : {b : Bool} (x y : ℕ) → b ≡ false → pick b x y ≡ y
+not-picked x y e = rw e
+
+pub pick-below : (b : Bool) {v : ℕ} → v < 2 → pick b v 0 < 2
+pick-below true h = h
+pick-below false h = omega arith
