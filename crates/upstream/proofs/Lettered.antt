@@ -11,7 +11,7 @@ use Rattle.transport.specs.Moved.{reversed}
 use Rattle.samples.specs.Sample.{Strip, strip, sample, difference, storedAt}
 use Rattle.damage.specs.Marks.{struckAt, marked, markByte, counted}
 use Rattle.layout.specs.declared.RasterLayout.{RasterLayout}
-use Rattle.layout.specs.Layout.{fields, completed, encodedWidth, planeChannels, planes, planeLength, scratchLength, outputLength, colours, highFirst, packedIndex, plainIndex}
+use Rattle.layout.specs.Layout.{completed, encodedWidth, planeChannels, planes, planeLength, scratchLength, outputLength, colours, highFirst, packedIndex, plainIndex}
 use Rattle.pixels.specs.Render.{source, paletteIndex, straightened, plainByte, converted}
 
 pub record Case : Type 0 where
@@ -28,21 +28,25 @@ predicted g le out-le raw = table (length raw) (storedAt (g .width) out-le (samp
 abbrev rendered : RasterLayout → List ℕ → List ℕ
 rendered l raw = table (l .«output_len») (converted l [] raw)
 
--- the layouts of cases G to K
+-- the layouts of cases G to K: one row of little-endian samples, black 0
+abbrev row : ℕ → ℕ → ℕ → ℕ → Bool → Bool → ℕ → RasterLayout
+row w ch bytes slots palette separate alpha =
+    completed (record { w = w; h = 1; ch = ch; bytes = bytes; slots = slots; palette = palette; separate = separate; le = true; white = false; alpha = alpha; map = 0 })
+
 abbrev bilevel : RasterLayout
-bilevel = completed (fields 9 1 1 1 8 false false true false 0 0)
+bilevel = row 9 1 1 8 false false 0
 
 abbrev palette : RasterLayout
-palette = completed (fields 3 1 3 1 2 true false true false 0 0)
+palette = row 3 3 1 2 true false 0
 
 abbrev planar : RasterLayout
-planar = completed (fields 2 1 3 1 1 false true true false 0 0)
+planar = row 2 3 1 1 false true 0
 
 abbrev pixel : RasterLayout
-pixel = completed (fields 1 1 1 2 1 false false true false 0 0)
+pixel = row 1 1 2 1 false false 0
 
 abbrev multiplied : RasterLayout
-multiplied = completed (fields 3 1 2 1 1 false false true false 1 0)
+multiplied = row 3 2 1 1 false false 1
 
 -- case L's damage, and the marks and their count
 abbrev third : List ℕ
