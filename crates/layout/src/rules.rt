@@ -29,7 +29,10 @@ pub(crate) fn check_served(f: Fields) -> Done
         Refusal::Unsupported,
     );
     let alpha = fault(2 < f.alpha, Refusal::Unsupported);
-    first_of(bytes, first_of(none, first_of(many, first_of(slots, alpha))))
+    first_of(
+        bytes,
+        first_of(none, first_of(many, first_of(slots, alpha))),
+    )
 }
 
 // Eight-byte samples are plain: one or three channels.
@@ -63,8 +66,7 @@ fn palette_rule(f: Fields) -> bool
 fn slots_rule(f: Fields) -> bool
     ensures { λ r. ⌜ r ≡ slotsRule f ⌝ }
 {
-    f.palette
-        | ((f.slots == 1) | (f.slots == 8) & (f.ch == 1) & (f.bytes == 1) & (f.alpha == 0))
+    f.palette | ((f.slots == 1) | (f.slots == 8) & (f.ch == 1) & (f.bytes == 1) & (f.alpha == 0))
 }
 
 // Step 2: what contradicts itself.

@@ -97,8 +97,10 @@ pub const PLACE: usize = 21;
 
 pub const NUMBERS: usize = 22;
 
-// How long buffers are, and the file part, at most.
+// How long most calls' buffers are, any buffer, and the file part, at most.
 pub const MOST: usize = 160;
+
+pub const LONGEST: usize = 1200;
 
 pub const MOST_FILE: usize = 1600;
 

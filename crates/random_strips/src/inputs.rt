@@ -6,6 +6,7 @@ use crate::rng::fill;
 use crate::rng::once_in;
 use crate::rng::pick;
 use crate::strip_inputs;
+use crate::strip_inputs::is_long;
 use crate::whole::*;
 
 // The number, or once in so many a likely fault in its place; a flag may be the other one. `check_layout` is given no derived fields.
@@ -26,7 +27,7 @@ fn spoilt(call: usize, t: usize, i: usize, good: usize) -> usize {
 fn capped(i: usize, v: usize) -> usize {
     match i {
         FILE => smaller(v, MOST_FILE),
-        LENGTH | ROOM => smaller(v, MOST),
+        LENGTH | ROOM => smaller(v, LONGEST),
         _ => v,
     }
 }
@@ -68,7 +69,7 @@ pub(crate) fn spoil_derived(call: usize, t: usize, p: &mut [usize]) {
 fn rare(call: usize, t: usize, p: &[usize]) -> usize {
     let some = plus(1, pick(t, 800, 30));
     match call {
-        MARKS => some,
+        MARKS => either(is_long(t), times(20, some), some),
         WRITE_PLANES => either(
             at(p, SLOTS) == 8,
             either(once_in(t, 801, 4), some, usize::MAX),

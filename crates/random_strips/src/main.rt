@@ -23,9 +23,9 @@ const TRIALS: usize = 320000;
 // The library and the reading on one input; the first difference is printed. Answers how many there are so far.
 fn compare(t: usize, p: &[usize], input: &[u8], file: &[u8], differ: usize) -> usize {
     let call = remainder(t, CALLS);
-    let mut expected = [170u8; MOST];
+    let mut expected = [170u8; LONGEST];
     let right = reading::answer(call, p, input, file, &mut expected);
-    let mut out = [170u8; MOST];
+    let mut out = [170u8; LONGEST];
     let got = library::answer(call, p, input, file, front_mut(&mut out, at(p, ROOM)));
     let held = right.number == got.number
         && right.value == got.value
@@ -40,8 +40,13 @@ fn compare(t: usize, p: &[usize], input: &[u8], file: &[u8], differ: usize) -> u
 
 // A trial whose numbers are chosen.
 fn with_bytes(t: usize, p: &[usize], differ: usize) -> usize {
-    let mut space = [0u8; MOST];
-    inputs::fill_input(remainder(t, CALLS), t, p, &mut space);
+    let mut space = [0u8; LONGEST];
+    inputs::fill_input(
+        remainder(t, CALLS),
+        t,
+        p,
+        front_mut(&mut space, at(p, LENGTH)),
+    );
     let mut file = [0u8; MOST_FILE];
     inputs::fill_file(t, p, &mut file);
     compare(

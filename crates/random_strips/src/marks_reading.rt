@@ -5,7 +5,7 @@ use crate::whole::*;
 
 // Whether another value of byte k changes sample n of a strip of these bytes.
 fn changes(p: &[usize], n: usize, k: usize) -> bool {
-    let mut bytes = [7u8; MOST];
+    let mut bytes = [7u8; LONGEST];
     let before = sample(&bytes, p, n);
     set(&mut bytes, k, 8);
     sample(&bytes, p, n) != before

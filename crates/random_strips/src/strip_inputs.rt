@@ -25,16 +25,33 @@ fn some_channels(t: usize) -> usize {
     }
 }
 
-// How long strips are at most: small where every damaged byte is tried.
-fn most(call: usize) -> usize {
-    either(call == MARKS, 32, MOST)
+// Whether marks are asked of a long strip.
+pub(crate) fn is_long(t: usize) -> bool {
+    once_in(t, 121, 400)
 }
 
-// One to nine pixels, as many as there is room for.
-fn some_row(call: usize, t: usize, pixel: usize) -> usize {
+// How long strips are at most: where every damaged byte is tried, small but for rows of many channels, and now and then long.
+fn most(call: usize, t: usize, channels: usize) -> usize {
+    if call != MARKS {
+        MOST
+    } else if is_long(t) {
+        LONGEST
+    } else {
+        either(4 < channels, 192, 32)
+    }
+}
+
+// One to nine pixels, of a long strip any number, as many as there is room for.
+fn some_row(call: usize, t: usize, p: &[usize]) -> usize {
+    let channels = at(p, CHANNELS);
+    let pixel = times(channels, at(p, WIDTH));
+    let pixels = quotient(most(call, t, channels), pixel);
     times(
         pixel,
-        plus(1, pick(t, 120, smaller(9, quotient(most(call), pixel)))),
+        plus(
+            1,
+            pick(t, 120, either(is_long(t), pixels, smaller(9, pixels))),
+        ),
     )
 }
 
@@ -45,7 +62,11 @@ fn some_length(call: usize, t: usize, p: &[usize]) -> usize {
     match call {
         CONVERT | FORWARD | MARKS | CHECK_STRIP => times(
             row,
-            pick(t, 130, plus(1, smaller(4, quotient(most(call), row)))),
+            pick(
+                t,
+                130,
+                plus(1, smaller(4, quotient(most(call, t, at(p, CHANNELS)), row))),
+            ),
         ),
         _ => times(width, pick(t, 130, plus(1, quotient(64, width)))),
     }
@@ -85,7 +106,7 @@ pub(crate) fn number(call: usize, t: usize, i: usize, p: &[usize]) -> usize {
         PREDICT => either(once_in(t, i, 4), 0, 1),
         WIDTH => some_width(call, t),
         CHANNELS => some_channels(t),
-        ROW => some_row(call, t, times(at(p, CHANNELS), at(p, WIDTH))),
+        ROW => some_row(call, t, p),
         LENGTH => some_length(call, t, p),
         ROOM => some_room(call, t, p),
         PLACE => some_place(call, t, p),
