@@ -1,14 +1,15 @@
 -- Where a byte of the picture comes from lies within the planes. Assumes nothing.
 use Prim.Native.Nat.{ℕ, _+_, _-_, _*_, _/_, _%_, _≤_, _<_}
-use mathlib.Core.Path.{_≡_, refl, sym, _∙_}
+use mathlib.Core.Path.{_≡_, refl, sym, ap, _∙_}
 use mathlib.Core.Bool.{Bool, true, false, _&&_}
 use mathlib.Core.Logic.{_⊎_, inl, inr, ⊎-elim}
-use native.Mathlib.Nat.{mul-le-mul-right, mul-comm, mul-assoc, mul-pos, add-mul, one-mul, mul-one, div-one, div-lt-iff-lt-mul, lt-div-mul-add, mod-lt}
+use native.Mathlib.Nat.{mul-le-mul-right, mul-comm, mul-assoc, mul-pos, add-mul, one-mul, mul-one, div-one, div-lt-iff-lt-mul, lt-div-mul-add, mod-lt, mul-div-cancel, div-add-mod'}
+use native.Mathlib.Decide.{decLt}
 use native.Mathlib.Omega.{arith}
 use lib.Dec.{eqb}
-use Rattle.answer.specs.Outcome.{Sound}
+use Rattle.answer.specs.Outcome.{Sound, pick}
 use Rattle.layout.specs.declared.RasterLayout.{RasterLayout}
-use Rattle.layout.specs.Layout.{byteLimit, encodedWidth, planeChannels, planes, planeLength, scratchLength, outputLength, recordFaults, packed, packedIndex, highFirst, plainIndex, sourceIndex}
+use Rattle.layout.specs.Layout.{byteLimit, encodedWidth, planeChannels, planes, planeLength, scratchLength, outputLength, recordFaults, packed, packedIndex, highFirst, pixelOf, byteOf, sampleIndex, plainIndex, sourceIndex}
 use Rattle.laws.proofs.Groups.{grouped}
 use Rattle.laws.proofs.Says.{Says, clash, refuted, up, equal, both, either}
 use Rattle.layout.proofs.Accepted.{Accepted, up-to-eight, bilevel}
@@ -119,6 +120,52 @@ module _ (l : RasterLayout) (s : Sound (recordFaults l)) where
         by : (b : Bool) → l .fields .separate ≡ b → plainIndex l k < l .«scratch_len»
         by true e = rw e (separate-below e (highFirst (l .fields .bytes) (l .fields .le) (k % (l .fields .ch * l .fields .bytes))) byte-within)
         by false e = rw e (interleaved-below e)
+
+    -- as a sample and a byte of it: the sample's place and the byte within it
+    pub sample-place : sampleIndex l (pixelOf l k) (byteOf l k / l .fields .bytes) * l .fields .bytes + byteOf l k % l .fields .bytes ≡ plainIndex l k
+    unfolding plainIndex planeChannels planes planeLength
+    sample-place = by (l .fields .separate) refl
+      where
+        some : 0 < l .fields .bytes
+        some = up-to-eight (shown .bytes) .0
+
+        p : ℕ
+        p = pixelOf l k
+
+        c : ℕ
+        c = byteOf l k
+
+        by : (b : Bool) → l .fields .separate ≡ b → sampleIndex l p (c / l .fields .bytes) * l .fields .bytes + c % l .fields .bytes ≡ pick (l .fields .separate) (c / l .fields .bytes * l .«plane_len» + p * l .fields .bytes + c % l .fields .bytes) (p * (l .fields .ch * l .fields .bytes) + c)
+        by true e =
+            let row : l .«encoded_width» ≡ encodedWidth (l .fields) = record-agreed l s .encoded-width in
+            let plane : l .«plane_len» ≡ l .fields .w * l .fields .h * l .fields .bytes = rw (← row, row-is plain, plain-one plain .0, e) at (record-agreed l s .plane-length) in
+            let whole : l .«plane_len» / l .fields .bytes * l .fields .bytes ≡ l .«plane_len» = rw (plane, mul-div-cancel (l .fields .w * l .fields .h) some) in
+            rw e (omega (arith, add-mul (c / l .fields .bytes * (l .«plane_len» / l .fields .bytes)) p (l .fields .bytes), mul-assoc (c / l .fields .bytes) (l .«plane_len» / l .fields .bytes) (l .fields .bytes), ap (λ (n : ℕ). c / l .fields .bytes * n) whole))
+        by false e =
+            rw e (omega (arith, add-mul (p * l .fields .ch) (c / l .fields .bytes) (l .fields .bytes), mul-assoc p (l .fields .ch) (l .fields .bytes), div-add-mod' c (l .fields .bytes)))
+
+    pub sample-inside : (sampleIndex l (pixelOf l k) (byteOf l k / l .fields .bytes) + 1) * l .fields .bytes ≤ l .«scratch_len»
+    unfolding planeChannels planes
+    sample-inside = by (decLt n all)
+      where
+        n : ℕ
+        n = sampleIndex l (pixelOf l k) (byteOf l k / l .fields .bytes)
+
+        all : ℕ
+        all = l .fields .w * l .fields .h * l .fields .ch
+
+        shape : (b : Bool) → l .fields .separate ≡ b → planeChannels (l .fields) * planes (l .fields) ≡ l .fields .ch * l .fields .bytes
+        shape true e = rw (plain-one plain .0, e) (mul-comm (l .fields .bytes) (l .fields .ch))
+        shape false e = rw (plain-one plain .0, e) (mul-one (l .fields .ch * l .fields .bytes))
+
+        whole : l .«scratch_len» ≡ all * l .fields .bytes
+        whole = scratch-is ∙ rw (row-is plain, shape (l .fields .separate) refl) (sym (mul-assoc (l .fields .w * l .fields .h) (l .fields .ch) (l .fields .bytes)))
+
+        by : Dec (n < all) → (n + 1) * l .fields .bytes ≤ l .«scratch_len»
+        by (yes less) = rw whole (mul-le-mul-right (l .fields .bytes) (omega arith))
+        by (no more) =
+            let most : all * l .fields .bytes ≤ n * l .fields .bytes = mul-le-mul-right (l .fields .bytes) (omega arith) in
+            absurd (omega (arith, sample-place, plain-below, whole))
 
   -- so wherever a byte of the picture comes from
   pub source-below : (k : ℕ) → k < l .«output_len» → sourceIndex l k < l .«scratch_len»

@@ -1,7 +1,7 @@
 -- Layouts as document 01 has them: what a caller says, what follows from it, the faults in the document's order, and where a byte comes from.
 -- Assumes nothing.
 use Prim.{Unit}
-use Prim.Native.Nat.{ℕ, _+_, _-_, _*_, _/_, _%_, _<_}
+use Prim.Native.Nat.{ℕ, _+_, _-_, _*_, _/_, _%_, _≤_, _<_}
 use mathlib.Core.Path.{_≡_}
 use mathlib.Core.Bool.{Bool, true, not, _&&_, _||_}
 use mathlib.Core.List.{List, [], _∷_, _++_}
@@ -140,6 +140,21 @@ sourceIndex l k = pick (packed l) (packedIndex l k) (plainIndex l k)
 pub record Asked (l : RasterLayout) (k : ℕ) : Type 0 where
   pub sound : Sound (recordFaults l)
   pub within : k < l .«output_len»
+
+-- byte k of the picture as a pixel, and a byte of that pixel
+abbrev pub pixelOf : RasterLayout → ℕ → ℕ
+pixelOf l k = k / (l .fields .ch * l .fields .bytes)
+
+abbrev pub byteOf : RasterLayout → ℕ → ℕ
+byteOf l k = highFirst (l .fields .bytes) (l .fields .le) (k % (l .fields .ch * l .fields .bytes))
+
+-- the sample of the planes that channel c of pixel p is, and what it needs
+abbrev pub sampleIndex : RasterLayout → ℕ → ℕ → ℕ
+sampleIndex l p c = pick (l .fields .separate) (c * (l .«plane_len» / l .fields .bytes) + p) (p * l .fields .ch + c)
+
+pub record SampleWithin (l : RasterLayout) (p c : ℕ) : Type 0 where
+  pub some : 0 < l .fields .bytes
+  pub limited : sampleIndex l p c ≤ byteLimit
 
 abbrev pub indexFaults : RasterLayout → ℕ → List Fault
 indexFaults l k = recordFaults l ++ (invalid (leb (l .«output_len») k) ∷ [])

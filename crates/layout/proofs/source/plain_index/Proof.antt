@@ -1,76 +1,80 @@
--- `layout::source::plain_index` meets its contract: nothing divides by 0, and each sum is below the scratch length. Assumes nothing.
+-- `layout::source::plain_index` meets its contract: nothing divides by 0, the sample's place is there, and the byte is within the planes.
+-- Assumes nothing.
 use borrow.Author.Needs.{needs}
+use borrow.Author.Tests.{ne-eqb, le-ltb}
 use native.Mathlib.Omega.{arith}
-use Prim.Native.Nat.{_+_, _*_, _/_, _%_, _≤_}
+use native.Mathlib.Nat.{le-mul-of-pos-right, mul-comm}
+use Prim.Native.Nat.{ℕ, _+_, _*_, _/_, _%_, _<_}
+use mathlib.Core.Path.{_≡_, ap, _∙_}
 use mir.Facts.{fits-below}
-use Rattle.layout.specs.Layout.{byteLimit, plainIndex}
-use Rattle.layout.proofs.Accepted.{Accepted, up-to-eight}
+use Rattle.answer.specs.Outcome.{done, next, none}
+use Rattle.answer.proofs.Promised.{sound-done}
+use Rattle.words.specs.Promises.{placeOutcome, placeFaults}
+use Rattle.layout.specs.Layout.{byteLimit, pixelOf, byteOf, sampleIndex, plainIndex}
+use Rattle.layout.proofs.Accepted.{up-to-eight}
 use Rattle.layout.proofs.Sizes.{bytes-few}
 use Rattle.layout.proofs.Whole.{record-accepted}
-use Rattle.layout.proofs.Placed.{stride-some, plain-below, scratch-limited}
+use Rattle.layout.proofs.Placed.{stride-some, plain-below, sample-place, sample-inside, scratch-limited}
 use Rattle.layout.proofs.source.plain_index.Statement.{statement}
 use Rattle.layout.proofs.source.plain_index.Tie as tie
 
-returns : tie.Need-returns
-unfolding plainIndex
-returns c = rw (c .before .before .before .before .before .high-first .ensures, c .before .before .before .before .if1 .taken)
+some : (c : tie.Start) → 0 < c .args .l .fields .bytes
+some c = up-to-eight (record-accepted (c .args .l) (c .pre .0 .sound) .bytes) .0
 
-returns-2 : tie.Need-returns-2
-unfolding plainIndex
-returns-2 c = rw (c .before .high-first .ensures, c .if1 .left)
+-- the sample that is asked for
+abbrev sample : tie.Start → ℕ
+sample c = let l = c .args .l in sampleIndex l (pixelOf l (c .args .k)) (byteOf l (c .args .k) / l .fields .bytes)
 
-known : (c : tie.Start) → Accepted (c .args .l .fields)
-known c = record-accepted (c .args .l) (c .pre .0 .sound)
+sample-limited : (c : tie.Start) → sample c < byteLimit
+sample-limited c =
+    let l = c .args .l in
+    omega (arith, sample-inside l (c .pre .0 .sound) (c .args .k) (c .pre .1) (c .pre .0 .within), scratch-limited l (c .pre .0 .sound), le-mul-of-pos-right {m = l .fields .bytes} (sample c + 1) (some c), mul-comm (sample c + 1) (l .fields .bytes))
 
-mul-stride : tie.Need-mul-stride
-mul-stride c = fits-below tt (bytes-few (c .before .args .l .fields) (known (c .before)))
+-- its place is there
+place-is : (c : tie.After-byte-place) → let start = c .before .before .before .before .before in placeOutcome (c .byte-place .result) ≡ done (sample start * start .args .l .fields .bytes)
+place-is c =
+    let sampled = c .before in
+    let first = sampled .before .before in
+    let start = first .before .before in
+    let l = start .args .l in
+    let which : sampled .sample-of .result .0 ≡ sample start = rw (first .high-first .ensures) at (sampled .sample-of .ensures) in
+    let fits = next (ne-eqb (l .fields .bytes) 0 (λ e. omega (arith, some start))) (next (le-ltb (l .«scratch_len») ((sample start + 1) * l .fields .bytes) (sample-inside l (start .pre .0 .sound) (start .args .k) (start .pre .1) (start .pre .0 .within))) none) in
+    (rw which at (c .byte-place .ensures)) ∙ sound-done (sample start * l .fields .bytes) fits
 
-div-p : tie.Need-div-p
-div-p c = stride-some (c .before .args .l) (c .before .pre .0 .sound)
-
-rem-high-first : tie.Need-rem-high-first
-rem-high-first c = stride-some (c .before .args .l) (c .before .pre .0 .sound)
-
-high-first-requires : tie.Need-high-first-requires
-high-first-requires c κs = search needs
-
-div-result : tie.Need-div-result
-div-result c = up-to-eight (known (c .before .before .before .before) .bytes) .0
-
--- the place is within the limit
-limited : (c : tie.Start) → plainIndex (c .args .l) (c .args .k) ≤ byteLimit
-limited c =
-    let asked = c .pre .0 in
-    omega (arith, plain-below (c .args .l) (asked .sound) (c .args .k) (c .pre .1) (asked .within), scratch-limited (c .args .l) (asked .sound))
-
-separate : (c : tie.Then1) → let l = c .before .before .before .args .l in let at = c .before .high-first .result in at / l .fields .bytes * l .«plane_len» + c .before .before .before .args .k / (l .fields .ch * l .fields .bytes) * l .fields .bytes + at % l .fields .bytes ≤ byteLimit
-unfolding plainIndex
-separate c = rw (c .before .high-first .ensures) (rw (c .if1 .taken) at (limited (c .before .before .before)))
-
-interleaved : (c : tie.Else1) → let l = c .before .before .before .args .l in c .before .before .before .args .k / (l .fields .ch * l .fields .bytes) * (l .fields .ch * l .fields .bytes) + c .before .high-first .result ≤ byteLimit
-unfolding plainIndex
-interleaved c = rw (c .before .high-first .ensures) (rw (c .if1 .left) at (limited (c .before .before .before)))
-
-mul-result : tie.Need-mul-result
-mul-result c = fits-below {n = byteLimit} tt (omega (arith, separate (c .before .before)))
-
-mul-result-2 : tie.Need-mul-result-2
-mul-result-2 c = fits-below {n = byteLimit} tt (omega (arith, separate (c .before .before .before)))
-
-add-result : tie.Need-add-result
-add-result c = fits-below {n = byteLimit} tt (omega (arith, separate (c .before .before .before)))
-
-rem-result : tie.Need-rem-result
-rem-result c = up-to-eight (known (c .before .before .before .before .before .before .before) .bytes) .0
-
-add-result-2 : tie.Need-add-result-2
-add-result-2 c = fits-below {n = byteLimit} tt (separate (c .before .before .before .before))
-
-mul-result-3 : tie.Need-mul-result-3
-mul-result-3 c = fits-below {n = byteLimit} tt (omega (arith, interleaved c))
-
-add-result-3 : tie.Need-add-result-3
-add-result-3 c = fits-below {n = byteLimit} tt (interleaved c)
+-- the byte that is answered
+answered : (c : tie.After-at) → let placed = c .before .before in let first = placed .before .before .before in let start = first .before .before in let l = start .args .l in c .at .given .0 .0 .0 + first .high-first .result % l .fields .bytes ≡ plainIndex l (start .args .k)
+answered c =
+    let placed = c .before .before in
+    let first = placed .before .before .before in
+    let start = first .before .before in
+    let l = start .args .l in
+    let told = ap placeOutcome (c .at .given .1) in
+    let is = place-is placed in
+    let here : c .at .given .0 .0 .0 ≡ sample start * l .fields .bytes = cc in
+    rw (here, first .high-first .ensures) (sample-place l (start .pre .0 .sound) (start .args .k) (start .pre .1) (start .pre .0 .within))
 
 pub plain-index-spec : {M : Type 1} → statement M
-plain-index-spec = tie.close (tie.spec mul-stride div-p rem-high-first high-first-requires div-result mul-result mul-result-2 add-result rem-result add-result-2 mul-result-3 add-result-3 returns returns-2)
+plain-index-spec =
+    tie.close
+    (tie.spec
+    (λ c. let start = c .before in fits-below tt (bytes-few (start .args .l .fields) (record-accepted (start .args .l) (start .pre .0 .sound))))
+    (λ c. let start = c .before in stride-some (start .args .l) (start .pre .0 .sound))
+    (λ c κs. search needs)
+    (λ c. let start = c .before .before in stride-some (start .args .l) (start .pre .0 .sound))
+    (λ c. some (c .before .before .before))
+    (λ c κs.
+    let first = c .before in
+    let start = first .before .before in record { some = some start; limited = rw (first .high-first .ensures) (omega (arith, sample-limited start)) })
+    (λ c κs. search needs)
+    (λ c. search needs)
+    (λ c. let placed = c .before .before .before .before in some (placed .before .before .before .before .before))
+    (λ c.
+    let at = c .before .before .before in
+    let placed = at .before .before in
+    let start = placed .before .before .before .before .before in
+    fits-below {n = byteLimit} tt (omega (arith, answered at, plain-below (start .args .l) (start .pre .0 .sound) (start .args .k) (start .pre .1) (start .pre .0 .within), scratch-limited (start .args .l) (start .pre .0 .sound))))
+    (λ c. search needs)
+    (λ c. answered (c .before .before .before))
+    (λ c.
+    let placed = c .before .before in
+    let told = ap placeOutcome (c .enum-told .given .1) in let is = place-is placed in absurd (let z : _≡_ {A = ℕ} 0 1 = cc in omega arith)))
