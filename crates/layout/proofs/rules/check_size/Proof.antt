@@ -10,9 +10,13 @@ use Rattle.layout.proofs.Sizes.{area-fits, part-fits, whole-fits}
 use Rattle.layout.proofs.rules.check_size.Statement.{statement}
 use Rattle.layout.proofs.rules.check_size.Tie as tie
 
+-- past the product
+abbrev start : tie.Else2 → tie.Start
+start c = c .before .before .before .before
+
 -- what the first step has shown, where the product begins
-few : (c : tie.Else2) → let f = c .before .before .before .before .args .f in (f .ch ≤ 4) × (f .bytes ≤ 8)
-few c = let start = c .before .before .before .before in served-few (start .args .f) (start .pre)
+few : (c : tie.Else2) → let f = start c .args .f in (f .ch ≤ 4) × (f .bytes ≤ 8)
+few c = served-few (start c .args .f) (start c .pre)
 
 pub check-size-spec : {M : Type 1} → statement M
 unfolding outputLength
@@ -27,8 +31,8 @@ check-size-spec =
     (λ c. let small = few (c .before .before) in part-fits (omega arith) (omega arith) (omega arith))
     (λ c. let small = few (c .before .before .before) in whole-fits (omega arith) (omega arith) (omega arith) (omega arith))
     (λ c.
-    let f = c .before .before .before .before .before .before .before .before .args .f in
+    let f = start (c .before .before .before .before) .args .f in
     record { passed = refusing (sizeFaults f) tt (later (le-ltb sideLimit (f .w) (omega arith)) (later (le-ltb sideLimit (f .h) (omega arith)) (here (lt-ltb byteLimit (outputLength f) (omega arith))))) })
     (λ c.
-    let f = c .before .before .before .before .before .before .before .before .args .f in
+    let f = start (c .before .before .before .before) .args .f in
     record { passed = finishing (sizeFaults f) tt (next (le-ltb sideLimit (f .w) (omega arith)) (next (le-ltb sideLimit (f .h) (omega arith)) (next (le-ltb byteLimit (outputLength f) (omega arith)) none))) }))

@@ -10,18 +10,8 @@ use Rattle.layout.proofs.Placed.{packed-below, scratch-limited}
 use Rattle.layout.proofs.source.packed_index.Statement.{statement}
 use Rattle.layout.proofs.source.packed_index.Tie as tie
 
-returns : tie.Need-returns
-unfolding packedIndex
-returns c = refl
-
 known : (c : tie.Start) → Accepted (c .args .l .fields)
 known c = record-accepted (c .args .l) (c .pre .0 .sound)
-
-div-p : tie.Need-div-p
-div-p c = known (c .before) .some
-
-div-result : tie.Need-div-result
-div-result c = known (c .before .before) .wide
 
 -- the place is within the limit
 limited : (c : tie.Start) → packedIndex (c .args .l) (c .args .k) ≤ byteLimit
@@ -29,19 +19,19 @@ limited c =
     let asked = c .pre .0 in
     omega (arith, packed-below (c .args .l) (asked .sound) (c .args .k) (c .pre .1) (asked .within), scratch-limited (c .args .l) (asked .sound))
 
-mul-result : tie.Need-mul-result
-unfolding packedIndex
-mul-result c = fits-below {n = byteLimit} tt (omega (arith, limited (c .before .before .before)))
-
-rem-result : tie.Need-rem-result
-rem-result c = known (c .before .before .before .before) .wide
-
-div-result-2 : tie.Need-div-result-2
-div-result-2 c = up-to-eight (known (c .before .before .before .before .before) .slots) .0
-
-add-result : tie.Need-add-result
-unfolding packedIndex
-add-result c = fits-below {n = byteLimit} tt (omega (arith, limited (c .before .before .before .before .before)))
+-- past the row's place
+abbrev start : tie.After-struct-known3 → tie.Start
+start c = c .before .before .before
 
 pub packed-index-spec : {M : Type 1} → statement M
-packed-index-spec = tie.close (tie.spec div-p div-result mul-result rem-result div-result-2 add-result returns)
+unfolding packedIndex
+packed-index-spec =
+    tie.close
+    (tie.spec
+    (λ c. known (c .before) .some)
+    (λ c. known (c .before .before) .wide)
+    (λ c. fits-below {n = byteLimit} tt (omega (arith, limited (start c))))
+    (λ c. known (start (c .before)) .wide)
+    (λ c. up-to-eight (known (start (c .before .before)) .slots) .0)
+    (λ c. fits-below {n = byteLimit} tt (omega (arith, limited (start (c .before .before)))))
+    (λ c. refl))
