@@ -23,13 +23,17 @@ same-length : tie.Need-same-length
 same-length c = search needs
 
 returns : tie.Need-returns
-returns c = telling (c .before .before .kind .given .1) (c .before .before .before .before .before .before .marks .ensures) (c .number .ensures) refl
+returns c =
+    let known = c .before .before in
+    let marked = known .before .before .before .before in telling (known .kind .given .1) (marked .marks .ensures) (c .number .ensures) refl
 
 same-length-2 : tie.Need-same-length-2
 same-length-2 c = search needs
 
 returns-2 : tie.Need-returns-2
-returns-2 c = telling (c .before .n .given .1) (c .before .before .before .before .before .marks .ensures) (omega arith) refl
+returns-2 c =
+    let known = c .before in
+    let marked = known .before .before .before .before in telling (known .n .given .1) (marked .marks .ensures) (omega arith) refl
 
 pub hamrisk-marks-spec : {M : Type 1} → statement M
 hamrisk-marks-spec =

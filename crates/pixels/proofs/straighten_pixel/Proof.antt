@@ -19,35 +19,9 @@ Inv-loop s₀ at last multiplied white a c₀ s c = (c ≤ last) × (length s �
 abbrev μ-loop : tie.MeasureT-loop
 μ-loop s₀ at last multiplied white a c₀ s c = last - c
 
-add-a : tie.Need-add-a Inv-loop μ-loop
-add-a c = omega (arith, c .before .pre)
-
-slice-read-a : tie.Need-slice-read-a Inv-loop μ-loop
-slice-read-a c = omega (arith, c .before .before .pre)
-
-loop-holds : tie.Need-loop-holds Inv-loop μ-loop
-loop-holds c = (omega arith, refl, refl)
-
-add-colour : tie.Need-add-colour Inv-loop μ-loop
-add-colour c = omega (arith, c .before .before .before .before .pre)
-
-slice-read-colour : tie.Need-slice-read-colour Inv-loop μ-loop
-slice-read-colour c = omega (arith, c .before .before .before .before .before .pre)
-
-colour-requires : tie.Need-colour-requires Inv-loop μ-loop
-colour-requires c κs = search needs
-
-add-s : tie.Need-add-s Inv-loop μ-loop
-add-s c = omega (arith, c .before .before .before .before .before .before .pre)
-
-slice-write-s : tie.Need-slice-write-s Inv-loop μ-loop
-slice-write-s c = omega (arith, c .before .before .before .before .before .before .pre)
-
-add-c : tie.Need-add-c Inv-loop μ-loop
-add-c c = omega (arith, c .before .before .before .before .before .before .pre)
-
-loop-less : tie.Need-loop-less Inv-loop μ-loop
-loop-less c = omega arith
+-- past the alpha byte
+abbrev begun : tie.In-loop Inv-loop μ-loop → tie.Start Inv-loop μ-loop
+begun c = c .before .before .before .before
 
 loop-again : tie.Need-loop-again Inv-loop μ-loop
 loop-again c =
@@ -61,15 +35,24 @@ loop-again c =
       rw (c .colour .ensures, unread, at .loop .inv .2, add-one),
     )
 
-same-length : tie.Need-same-length Inv-loop μ-loop
-same-length c = search needs
-
-returns : tie.Need-returns Inv-loop μ-loop
-returns c =
-    let at = c .before in
-    let all : at .loop .c ≡ at .before .before .before .args .last = omega arith in rw all at (at .loop .inv .2)
-
 pub straighten-pixel-spec : {M : Type 1} → statement M
 straighten-pixel-spec =
     tie.close
-    (tie.spec Inv-loop μ-loop add-a slice-read-a loop-holds add-colour slice-read-colour colour-requires add-s slice-write-s add-c loop-less loop-again same-length returns)
+    (tie.spec
+    Inv-loop
+    μ-loop
+    (λ c. omega (arith, c .before .pre))
+    (λ c. omega (arith, c .before .before .pre))
+    (λ c. (omega arith, refl, refl))
+    (λ c. omega (arith, begun c .pre))
+    (λ c. omega (arith, begun (c .before) .pre))
+    (λ c κs. search needs)
+    (λ c. omega (arith, begun (c .before .before) .pre))
+    (λ c. omega (arith, begun (c .before .before) .pre))
+    (λ c. omega (arith, begun (c .before .before) .pre))
+    (λ c. omega arith)
+    loop-again
+    (λ c. search needs)
+    (λ c.
+    let at = c .before in
+    let all : at .loop .c ≡ at .before .before .before .args .last = omega arith in rw all at (at .loop .inv .2)))

@@ -27,21 +27,24 @@ straighten-known-requires c κs =
 
 add-at : tie.Need-add-at Inv-loop μ-loop
 add-at c =
-    let at = c .before .before .before .before .before in
+    let turn = c .before .before .before .before in
+    let at = turn .before in
     let start = at .before .before in
-    omega (arith, pixel-room (start .pre) (at .loop .inv) (omega (arith, c .before .before .before .before .loop-test .taken, at .loop .inv .same)), start .good)
+    omega (arith, pixel-room (start .pre) (at .loop .inv) (omega (arith, turn .loop-test .taken, at .loop .inv .same)), start .good)
 
 loop-less : tie.Need-loop-less Inv-loop μ-loop
 loop-less c =
-    let at = c .before .before .before .before .before in
+    let turn = c .before .before .before .before in
+    let at = turn .before in
     let start = at .before .before in
-    omega (arith, c .before .before .before .before .loop-test .taken, at .loop .inv .same, start .pre .some)
+    omega (arith, turn .loop-test .taken, at .loop .inv .same, start .pre .some)
 
 loop-again : tie.Need-loop-again Inv-loop μ-loop
 loop-again c =
-    let at = c .before .before .before .before .before in
+    let turn = c .before .before .before .before in
+    let at = turn .before in
     let start = at .before .before in
-    pixel-turned (start .pre) (at .loop .inv) (omega (arith, c .before .before .before .before .loop-test .taken, at .loop .inv .same)) _ (c .before .before .straighten-known .ensures)
+    pixel-turned (start .pre) (at .loop .inv) (omega (arith, turn .loop-test .taken, at .loop .inv .same)) _ (c .before .before .straighten-known .ensures)
 
 same-length : tie.Need-same-length Inv-loop μ-loop
 same-length c = search needs

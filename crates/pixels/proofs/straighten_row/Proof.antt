@@ -45,13 +45,17 @@ done c multiplied new p =
     (next (ne-eqb _ _ (c .before .if1 .left)) (next (ap not (eq-eqb _ _ (c .if2 .left))) none)) p
 
 returns-3 : tie.Need-returns-3
-returns-3 c = rw (c .before .before .before .before .if3 .taken) (done (c .before .before .before .before .before) true _ (c .before .before .straighten-pixels .ensures))
+returns-3 c =
+    let called = c .before .before in
+    let branch = called .before .before in rw (branch .if3 .taken) (done (branch .before) true _ (called .straighten-pixels .ensures))
 
 same-length-2 : tie.Need-same-length-2
 same-length-2 c = search needs
 
 returns-4 : tie.Need-returns-4
-returns-4 c = rw (c .before .before .before .before .if3 .left) (done (c .before .before .before .before .before) false _ (c .before .before .straighten-pixels2 .ensures))
+returns-4 c =
+    let called = c .before .before in
+    let branch = called .before .before in rw (branch .if3 .left) (done (branch .before) false _ (called .straighten-pixels2 .ensures))
 
 pub straighten-row-spec : {M : Type 1} → statement M
 straighten-row-spec =
