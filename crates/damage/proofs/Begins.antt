@@ -12,7 +12,7 @@ use lib.ListN.{length, getD, take, drop}
 use Rattle.answer.specs.Table.{table, filled}
 use Rattle.answer.proofs.Filling.{part, length-part, part-at, part-filled, table-same, length-filled, filled-all}
 use Rattle.words.proofs.Served.{served-some}
-use Rattle.swaps.proofs.Mirror.{group-room}
+use Rattle.laws.proofs.Groups.{group-room}
 use Rattle.samples.specs.Sample.{Strip, strip, alone}
 use Rattle.damage.specs.Marks.{struckAt, struck, marked, markByte}
 use Rattle.damage.specs.Passes.{SoundTo, FirstDamaged, Words, PixelStruck, since, MarkedFrom, MarksFit, RowMarked}

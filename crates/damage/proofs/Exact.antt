@@ -14,13 +14,13 @@ use Rattle.answer.specs.Table.{table}
 use Rattle.answer.proofs.Filling.{length-table, table-at}
 use Rattle.words.specs.Digits.{digit}
 use Rattle.words.specs.Word.{ordered, Bytes, modulus}
-use Rattle.words.proofs.Words.{word-below, word-digit, word-same}
+use Rattle.words.proofs.Words.{word-below, word-digit, word-same, plus-left, plus-right}
 use Rattle.samples.specs.Sample.{Strip, alone, wordOf, sample}
-use Rattle.samples.proofs.Sums.{neither, not-alone, sample-alone, sample-later}
+use Rattle.samples.proofs.Sums.{not-alone, sample-alone, sample-later}
+use Rattle.laws.proofs.Says.{neither}
 use Rattle.samples.proofs.Undo.{sample-below}
 use Rattle.damage.specs.Marks.{struck, marked, markByte, Alike, Differ}
 use Rattle.laws.proofs.Lists.{each-table}
-use Rattle.damage.proofs.General.{plus-left, plus-right}
 use Rattle.damage.proofs.Marking.{mark-small, damaged-hurt, unstruck, struck-where, marked-alone, marked-later}
 
 -- sample n and the one `channels` before it are there

@@ -1,4 +1,3 @@
-pub mod General
 pub mod Marking
 pub mod Exact
 pub mod Loops

@@ -11,7 +11,7 @@ use Rattle.answer.specs.Table.{table, filled}
 use Rattle.answer.proofs.Promised.{sound-here}
 use Rattle.answer.proofs.Filling.{part, length-part, part-at, part-filled, length-table, length-filled, filled-all, table-same}
 use Rattle.words.specs.Promises.{served}
-use Rattle.swaps.proofs.Mirror.{group-room}
+use Rattle.laws.proofs.Groups.{group-room}
 use Rattle.samples.specs.Sample.{Strip, strip, Good}
 use Rattle.samples.proofs.Strips.{good-checked, per-row}
 use Rattle.damage.specs.Marks.{damaged, struck, marked, markByte, counted}

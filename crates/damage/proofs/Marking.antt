@@ -12,11 +12,12 @@ use lib.Dec.{eqb, ltb}
 use lib.ListN.{getD}
 use Rattle.answer.specs.Outcome.{pick}
 use Rattle.words.specs.Word.{wordAt}
-use Rattle.swaps.proofs.Mirror.{into-group}
+use Rattle.laws.proofs.Groups.{into-group}
 use Rattle.samples.specs.Sample.{Strip, alone}
-use Rattle.samples.proofs.Sums.{neither, in-row, not-alone, first-alone}
+use Rattle.samples.proofs.Sums.{in-row, not-alone, first-alone}
+use Rattle.laws.proofs.Says.{neither}
 use Rattle.damage.specs.Marks.{damaged, anyBelow, struckAt, struck, tainted, marked, markByte}
-use Rattle.damage.proofs.General.{value-none, none-value}
+use Rattle.words.proofs.Digits.{value-none, none-value}
 
 -- a mark is 0 or 1
 pub mark-small : (b : Bool) → markByte b ≤ 1

@@ -1,7 +1,8 @@
 -- Items in groups of a size: where an item stands, and which group and which item a place is. Assumes nothing.
 use Prim.Native.Nat.{ℕ, zero, suc, _+_, _*_, _/_, _%_, _≤_, _<_}
-use mathlib.Core.Path.{_≡_, ap, _∙_}
-use native.Mathlib.Nat.{mul-zero, mul-le-mul-right, add-mul, one-mul, add-zero, mul-add-div-right, div-eq-of-lt, mul-add-mod-self-right, mod-eq-of-lt}
+use mathlib.Core.Path.{_≡_, sym, ap, _∙_}
+use native.Mathlib.Nat.{mul-zero, mul-suc, mul-le-mul-left, mul-le-mul-right, add-mul, one-mul, zero-add, add-zero, div-add-mod, mul-add-div-right, div-eq-of-lt, mul-add-mod-self-right, mod-add-mod, mod-eq-of-lt, dvd-of-mod-eq-zero, mod-eq-zero-of-dvd, dvd-trans, dvd-mul-left}
+use native.Mathlib.Decide.{decLt}
 use native.Mathlib.Omega.{arith}
 
 -- item b of group a, in groups of m
@@ -18,3 +19,21 @@ item-of a m {b} h = mul-add-mod-self-right a m b ∙ mod-eq-of-lt h
 pub positive : (a b : ℕ) → {n : ℕ} → n < a * b → 0 < b
 positive a zero {n} h = absurd (omega (arith, mul-zero a))
 positive a (suc b) h = omega arith
+
+-- between whole groups there is room for a group
+pub group-room : (width n at : ℕ) → n % width ≡ 0 → at % width ≡ 0 → at < n → at + width ≤ n
+group-room width n at hn ha l = by (decLt (at / width) (n / width))
+  where
+    by : Dec (at / width < n / width) → at + width ≤ n
+    by (yes less) = omega (arith, mul-le-mul-left width less, mul-suc width (at / width), div-add-mod n width, div-add-mod at width)
+    by (no more) =
+        let back : n / width ≤ at / width = omega arith in
+        absurd (omega (arith, mul-le-mul-left width back, div-add-mod n width, div-add-mod at width))
+
+-- p places into a group
+pub into-group : (width at p : ℕ) → at % width ≡ 0 → p < width → (at + p) % width ≡ p
+into-group width at p ha l = sym (mod-add-mod at width p) ∙ rw (ha, zero-add) (mod-eq-of-lt l)
+
+-- groups of several widths are groups of one
+pub groups-words : (n channels width : ℕ) → n % (channels * width) ≡ 0 → n % width ≡ 0
+groups-words n channels width e = mod-eq-zero-of-dvd width (dvd-trans width (dvd-mul-left width channels) (dvd-of-mod-eq-zero (channels * width) e))

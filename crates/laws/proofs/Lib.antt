@@ -2,3 +2,4 @@ pub mod Says
 pub mod Groups
 pub mod Picks
 pub mod Lists
+pub mod Faults

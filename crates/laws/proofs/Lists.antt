@@ -58,3 +58,13 @@ front-at n f x e i h = sym (getD-take n x i 0 h) ∙ ap (λ (l : List ℕ). getD
 pub own-front : (n : ℕ) (x : List ℕ) → n ≤ length x → table n (λ k. getD x k 0) ≡ take n x
 own-front n x h =
     ext-getD 0 (table n (λ k. getD x k 0)) (take n x) (length-table n _ ∙ sym (length-take n x ∙ omega arith)) (λ i l. let inside : i < n = omega (arith, length-table n (λ k. getD x k 0)) in table-at n _ i inside ∙ sym (getD-take n x i 0 inside))
+
+-- n times 0
+abbrev pub nothing : ℕ → List ℕ
+nothing zero = []
+nothing (suc n) = 0 ∷ nothing n
+
+pub zeros : (n j : ℕ) → getD (nothing n) j 0 ≡ 0
+zeros zero j = refl
+zeros (suc n) zero = refl
+zeros (suc n) (suc j) = zeros n j

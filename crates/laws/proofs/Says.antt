@@ -80,3 +80,8 @@ or-else {a} {b} {P} {Q} s r = record { tells = by a refl; told = back a refl }
 -- the same test of the same fact in other words
 pub restated : {b : Bool} {P Q : Type 0} → Says b P → (P → Q) → (Q → P) → Says b Q
 restated s to from = record { tells = λ e. to (s .tells e); told = λ q. s .told (from q) }
+
+-- an `or` that fails
+pub neither : (a b : Bool) → (a || b) ≡ false → (a ≡ false) × (b ≡ false)
+neither true b e = absurd (let z : _≡_ {A = ℕ} 0 1 = cc in omega arith)
+neither false b e = (refl, e)

@@ -9,7 +9,7 @@ use borrow.Author.Tests.{eq-eqb, ne-eqb}
 use lib.ListN.{length, getD}
 use Rattle.answer.specs.Table.{filled}
 use Rattle.answer.proofs.Filling.{length-filled, filled-keep, filled-rest, stores-filled}
-use Rattle.swaps.proofs.Mirror.{group-room, into-group}
+use Rattle.laws.proofs.Groups.{group-room, into-group}
 use Rattle.pixels.specs.Render.{straightColour}
 use Rattle.pixels.specs.Finish.{straightAt, WholePixels, PixelStraightened, PixelsStraightened}
 

@@ -11,7 +11,7 @@ use lib.Dec.{eqb}
 use Rattle.answer.specs.Outcome.{pick}
 use Rattle.answer.specs.Table.{filled, stores}
 use Rattle.answer.proofs.Filling.{length-stores, stores-on, stores-filled, length-filled, filled-all}
-use Rattle.swaps.proofs.Mirror.{group-room}
+use Rattle.laws.proofs.Groups.{group-room}
 use Rattle.layout.specs.Layout.{highFirst}
 use Rattle.pixels.proofs.HighFirst.{high-few, some-bytes, high-first-one, high-first-two, high-first-in}
 use Rattle.pixels.proofs.Places.{group-of, item-of}

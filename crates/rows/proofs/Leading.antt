@@ -1,44 +1,26 @@
 -- The first words of a row: put there by `lead`, they are the row's first samples and its first differences, and the loops go on from them.
--- Assumes nothing.
+-- And a strip without prediction, whose words all stand for themselves. Assumes nothing.
 use mathlib.Core.Path.{_≡_, refl, sym, ap, _∙_}
 use mathlib.Core.Bool.{Bool, true, false, not}
-use mathlib.Core.List.{List, _++_}
-use Prim.Native.Nat.{ℕ, _+_, _-_, _*_, _/_, _%_, _<_}
-use native.Mathlib.Nat.{zero-add, mod-le, mod-eq-of-lt, div-lt-iff-lt-mul}
+use mathlib.Core.List.{List}
+use Prim.Native.Nat.{ℕ, _*_, _/_, _%_, _≤_, _<_}
+use native.Mathlib.Nat.{mul-mod-left, mod-le, mod-eq-of-lt, div-lt-iff-lt-mul}
 use native.Mathlib.Omega.{arith}
 use borrow.Author.Tests.{eq-eqb, lt-ltb, le-ltb}
-use lib.ListN.{length, take, drop}
-use Rattle.answer.specs.Outcome.{Sound, next, none}
-use Rattle.answer.specs.Table.{table, filled}
+use lib.ListN.{length, take}
+use Rattle.answer.specs.Outcome.{next, none}
+use Rattle.answer.specs.Table.{filled}
 use Rattle.answer.specs.declared.Done.{Done}
 use Rattle.answer.proofs.Promised.{finished}
-use Rattle.answer.proofs.Filling.{part, length-part, part-filled, length-filled, filled-all, filled-same, filled-take, filled-on, table-same}
+use Rattle.answer.proofs.Filling.{length-filled, filled-same, filled-take, filled-on}
 use Rattle.words.specs.Digits.{digit}
-use Rattle.words.specs.Word.{ordered, Bytes, wordAt, modulus}
+use Rattle.words.specs.Word.{ordered, Bytes, modulus}
+use Rattle.words.specs.Promises.{served}
 use Rattle.words.proofs.Words.{word-below}
 use Rattle.samples.specs.Sample.{Strip, wordOf, alone, storedAt}
 use Rattle.samples.specs.Promises.{reorderFaults, Reordered}
 use Rattle.samples.proofs.Sums.{sample-alone, difference-alone}
-use Rattle.samples.proofs.Stored.{word-room}
-use Rattle.samples.proofs.Parts.{part-word}
-use Rattle.rows.specs.Row.{oneRow, meant, RowServed, Led, LeadFits, LedInto, undoneAt, predictedAt}
-
--- what `reorder` does to the front is what `lead` promises of the whole
-pub led : (raw out new : List ℕ) (step width : ℕ) (le out-le : Bool) (answer : Done) → LeadFits raw step width out → Reordered (part 0 step raw) width le out-le (part 0 step out) answer new → new ++ drop (step - 0) (drop 0 out) ≡ filled step (storedAt width out-le (wordOf width le raw)) out
-led raw out new step width le out-le answer fits p =
-    let front = part 0 step raw in
-    let long : length front ≡ step - 0 = length-part 0 step raw (omega arith) (fits .within) in
-    let wide : length (part 0 step out) ≡ step - 0 = length-part 0 step out (omega arith) (fits .room) in
-    let none-taken : step - 0 ≡ step = omega arith in
-    let words : length front % width ≡ 0 = rw (long, none-taken) (fits .words) in
-    let sound : Sound (reorderFaults front width (part 0 step out)) = next (ap not (fits .takes)) (next (ap not (eq-eqb _ _ words)) (next (le-ltb (length (part 0 step out)) (length front) (omega arith)) none)) in
-    let stored = storedAt width out-le (wordOf width le raw) in
-    let all : new ≡ table (step - 0) (λ k. stored (0 + k)) =
-    finished (reorderFaults front width (part 0 step out)) tt (length front) (storedAt width out-le (wordOf width le front)) (part 0 step out) new sound p
-    ∙ filled-all (length front) _ (part 0 step out) (omega arith)
-    ∙ ap (λ (n : ℕ). table n (storedAt width out-le (wordOf width le front))) long
-    ∙ table-same (step - 0) _ _ (λ k h. rw zero-add (ap (digit 256 (ordered out-le width (k % width))) (part-word raw 0 step (k / width * width) width le (word-room (step - 0) width k (rw none-taken (fits .words)) h) ∙ ap (λ (i : ℕ). wordAt raw i width le) (zero-add (k / width * width))))) in
-    part-filled stored 0 step out out new (omega arith) refl all
+use Rattle.rows.specs.Row.{oneRow, meant, RowServed, Led, LeadFits, LedInto, undoneAt, predictedAt, UndoneInto, PredictedInto, TransformedInto}
 
 module _ (raw : List ℕ) (b : Bytes raw) (channels width : ℕ) (some : 0 < width) (le out-le : Bool) (k : ℕ) (h : k < channels * width) where
   first : alone (oneRow raw channels width) true (k / width) ≡ true
@@ -68,9 +50,34 @@ module _ (f : ℕ → ℕ) (raw : List ℕ) (channels width : ℕ) (le out-le : 
   pub done-on : (new : List ℕ) → new ≡ filled (length raw) f mid → new ≡ filled (length raw) f old
   done-on new e = e ∙ ap (filled (length raw) f) begun ∙ filled-on (channels * width) (length raw) f old (row .step)
 
--- without prediction every word stands for itself
-pub unpredicted : (raw : List ℕ) (b : Bytes raw) (g : Strip) (le out-le forward : Bool) (old : List ℕ) → filled (length raw) (storedAt (g .width) out-le (wordOf (g .width) le raw)) old ≡ filled (length raw) (storedAt (g .width) out-le (meant forward g false le raw)) old
-unpredicted raw b g le out-le forward old = filled-same (length raw) _ _ old (λ k h. ap (digit 256 (ordered out-le (g .width) (k % g .width))) (by forward (k / g .width)))
+-- the first words of a row are there, and there is room for them
+pub lead-fits : {raw : List ℕ} {channels width : ℕ} {out : List ℕ} → RowServed raw channels width out → LeadFits raw (channels * width) width out
+lead-fits {raw} {channels} {width} row = record {
+  takes = row .takes;
+  words = mul-mod-left channels width;
+  within = row .step;
+  room = omega (arith, row .step, row .fits .room);
+}
+
+-- a row whose first words `lead` put there
+module _ (raw : List ℕ) (b : Bytes raw) (channels width : ℕ) (le out-le : Bool) (old mid : List ℕ) (row : RowServed raw channels width old) (is : LedInto raw (channels * width) width le out-le old mid) where
+  pub undone-on : Led (undoneAt raw channels width le out-le) raw channels width mid
+  undone-on = goes-on _ raw channels width le out-le old mid row (first-undone raw b channels width (row .fits .wide) le out-le) is
+
+  pub undone-all : (new : List ℕ) → UndoneInto raw channels width le out-le mid new → UndoneInto raw channels width le out-le old new
+  undone-all = done-on _ raw channels width le out-le old mid row (first-undone raw b channels width (row .fits .wide) le out-le) is
+
+  pub predicted-on : Led (predictedAt raw channels width le out-le) raw channels width mid
+  predicted-on = goes-on _ raw channels width le out-le old mid row (first-predicted raw b channels width (row .fits .wide) le out-le) is
+
+  pub predicted-all : (new : List ℕ) → PredictedInto raw channels width le out-le mid new → PredictedInto raw channels width le out-le old new
+  predicted-all = done-on _ raw channels width le out-le old mid row (first-predicted raw b channels width (row .fits .wide) le out-le) is
+
+-- without prediction every word stands for itself, and `reorder` puts it there
+pub unpredicted : (raw : List ℕ) (b : Bytes raw) (g : Strip) (le out-le forward : Bool) (old : List ℕ) (answer : Done) (new : List ℕ) → served (g .width) ≡ true → length raw % g .width ≡ 0 → length raw ≤ length old → Reordered raw (g .width) le out-le old answer new → TransformedInto raw g false le out-le forward old new
+unpredicted raw b g le out-le forward old answer new takes words room p =
+    finished (reorderFaults raw (g .width) old) tt (length raw) (storedAt (g .width) out-le (wordOf (g .width) le raw)) old new (next (ap not takes) (next (ap not (eq-eqb _ _ words)) (next (le-ltb _ _ room) none))) p
+    ∙ filled-same (length raw) _ _ old (λ k h. ap (digit 256 (ordered out-le (g .width) (k % g .width))) (by forward (k / g .width)))
   where
     by : (f : Bool) (n : ℕ) → wordOf (g .width) le raw n ≡ meant f g false le raw n
     by true n = sym (difference-alone g false le raw n refl ∙ mod-eq-of-lt (word-below raw (n * g .width) (g .width) le b))

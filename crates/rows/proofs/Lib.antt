@@ -1,5 +1,5 @@
 pub mod Loops
 pub mod Leading
-pub mod Checked
+pub mod Rows
 pub mod Determined
 pub mod Resumed

@@ -1,8 +1,8 @@
 -- The loops over a row, for every width: their invariants, how a turn keeps each, and what it comes to at the end. Assumes nothing.
 use mathlib.Core.Path.{_≡_, refl, sym, ap, _∙_}
 use mathlib.Core.Bool.{Bool, true, false}
-use mathlib.Core.List.{List, [], _∷_}
-use Prim.Native.Nat.{ℕ, zero, suc, _+_, _-_, _*_, _/_, _%_, _≤_, _<_}
+use mathlib.Core.List.{List}
+use Prim.Native.Nat.{ℕ, _+_, _-_, _*_, _/_, _%_, _≤_, _<_}
 use native.Mathlib.Nat.{mul-mod-left, add-zero, zero-mod, add-mod-right, add-mul-div-right, mul-div-cancel, div-add-mod', mod-eq-of-lt, mod-add-mod, add-mod-mod, le-div-iff-mul-le, add-mul, one-mul, mul-sub, mul-comm, le-mul-of-pos-right}
 use native.Mathlib.Numerals.{add-one}
 use native.Mathlib.Omega.{arith}
@@ -12,55 +12,42 @@ use native.Mathlib.Decide.{decLt}
 use Rattle.answer.specs.Outcome.{pick}
 use lib.ListN.{length, getD}
 use Rattle.answer.specs.Table.{filled}
-use Rattle.answer.proofs.Filling.{length-stores, stores-same, stores-filled, filled-front, filled-already, filled-same}
+use Rattle.answer.proofs.Filling.{length-stores, stores-filled, filled-front, filled-already, filled-same}
 use Rattle.words.specs.Digits.{digit}
-use Rattle.words.specs.Word.{ordered, wordAt, Put, backwards, modulus, plus, minus}
-use Rattle.words.proofs.Digits.{digit-below, digit-value, value-digit}
-use Rattle.words.proofs.Words.{ordered-below, digits-word, backwards-digit}
-use Rattle.swaps.proofs.Mirror.{group-room}
+use Rattle.words.specs.Word.{ordered, wordAt, Put, modulus, plus, minus}
+use Rattle.words.proofs.Words.{digits-word}
+use Rattle.laws.proofs.Groups.{group-room, groups-words}
 use Rattle.samples.specs.Sample.{Strip, alone, wordOf, sample, difference, storedAt}
 use Rattle.samples.proofs.Sums.{sample-alone, sample-later, difference-later}
 use Rattle.samples.proofs.Stored.{stored-byte}
-use Rattle.samples.proofs.Strips.{groups-words}
 use Rattle.samples.proofs.Undo.{sample-below}
 use Rattle.rows.specs.Row.{oneRow, RowFits, Led, undoneAt, resumed}
+use Rattle.laws.proofs.Lists.{nothing, zeros}
 
--- a word stored backwards is stored in the other byte order
-pub put-backwards : (old : List ℕ) (at width v : ℕ) (new : List ℕ) → Put old at width true (backwards width v) new → Put old at width false v new
-put-backwards old at width v new e = e ∙ stores-same old at width _ _ (backwards-digit width v)
-
--- a number and its rest modulo 256^width are stored alike
-pub put-rest : (old : List ℕ) (at width : ℕ) (le : Bool) (v : ℕ) (new : List ℕ) → Put old at width le (v % modulus width) new → Put old at width le v new
-put-rest old at width le v new e =
-    e
-    ∙ stores-same old at width _ _ (λ p h.
-    ap (digit 256 (ordered le width p)) (sym (value-digit 256 width v (omega arith)))
-    ∙ digit-value 256 width (λ q. digit 256 q v) (λ q l. digit-below 256 q v (omega arith)) (ordered le width p) (ordered-below le width p h))
-
--- the buffer holds the words v, stored, up to `at`
-pub record Upto (v : ℕ → ℕ) (width : ℕ) (out-le : Bool) (raw old : List ℕ) (at : ℕ) (out : List ℕ) : Type 0 where
-  pub inside : at ≤ length raw
+-- the buffer holds the words v, stored, up to `at`, of n bytes in all
+pub record Upto (v : ℕ → ℕ) (width : ℕ) (out-le : Bool) (n : ℕ) (old : List ℕ) (at : ℕ) (out : List ℕ) : Type 0 where
+  pub inside : at ≤ n
   pub words : at % width ≡ 0
   pub same : length out ≡ length old
   pub so-far : out ≡ filled at (storedAt width out-le v) old
 
-pub upto-none : (v : ℕ → ℕ) (width : ℕ) (out-le : Bool) (raw old : List ℕ) → Upto v width out-le raw old 0 old
-upto-none v width out-le raw old = record { inside = omega arith; words = zero-mod width; same = refl; so-far = refl }
+pub upto-none : (v : ℕ → ℕ) (width : ℕ) (out-le : Bool) (n : ℕ) (old : List ℕ) → Upto v width out-le n old 0 old
+upto-none v width out-le n old = record { inside = omega arith; words = zero-mod width; same = refl; so-far = refl }
 
-module _ {v : ℕ → ℕ} {width : ℕ} {out-le : Bool} {raw old : List ℕ} {at : ℕ} {out : List ℕ} (is : Upto v width out-le raw old at out) where
+module _ {v : ℕ → ℕ} {width : ℕ} {out-le : Bool} {n : ℕ} {old : List ℕ} {at : ℕ} {out : List ℕ} (is : Upto v width out-le n old at out) where
   -- `at` in words
   pub back-at : at / width * width ≡ at
   back-at = omega (arith, div-add-mod' at width, is .words)
 
-  module _ (whole : length raw % width ≡ 0) (more : at < length raw) where
-    pub turn-room : at + width ≤ length raw
-    turn-room = group-room width (length raw) at whole (is .words) more
+  module _ (whole : n % width ≡ 0) (more : at < n) where
+    pub turn-room : at + width ≤ n
+    turn-room = group-room width n at whole (is .words) more
 
-    pub in-words : 0 < width → at / width < length raw / width
+    pub in-words : 0 < width → at / width < n / width
     in-words some =
-        rw add-one at (le-div-iff-mul-le {k = width} {x = at / width + 1} {y = length raw} some .1 (omega (arith, turn-room, back-at, add-mul (at / width) 1 width, one-mul width)))
+        rw add-one at (le-div-iff-mul-le {k = width} {x = at / width + 1} {y = n} some .1 (omega (arith, turn-room, back-at, add-mul (at / width) 1 width, one-mul width)))
 
-    pub turned : (fits : length raw ≤ length old) (x : ℕ) (new : List ℕ) → x ≡ v (at / width) → Put out at width out-le x new → Upto v width out-le raw old (at + width) new
+    pub turned : (fits : n ≤ length old) (x : ℕ) (new : List ℕ) → x ≡ v (at / width) → Put out at width out-le x new → Upto v width out-le n old (at + width) new
     turned fits x new e put = record {
       inside = turn-room;
       words = add-mod-right at width ∙ is .words;
@@ -68,8 +55,8 @@ module _ {v : ℕ → ℕ} {width : ℕ} {out-le : Bool} {raw old : List ℕ} {a
       so-far = put ∙ stores-filled (storedAt width out-le v) _ old out at width (λ p h. rw e (sym (rw back-at at (stored-byte width out-le v (at / width) p h)))) (omega (arith, turn-room)) (is .so-far);
     }
 
-  pub ended : length raw ≤ at → out ≡ filled (length raw) (storedAt width out-le v) old
-  ended l = let all : at ≡ length raw = omega (arith, is .inside) in rw all at (is .so-far)
+  pub ended : n ≤ at → out ≡ filled n (storedAt width out-le v) old
+  ended l = let all : at ≡ n = omega (arith, is .inside) in rw all at (is .so-far)
 
 -- a row's sample is alone exactly if it is one of the first `channels`
 pub later : (raw : List ℕ) (channels width n : ℕ) → n < length raw / width → channels ≤ n → alone (oneRow raw channels width) true n ≡ false
@@ -114,16 +101,6 @@ carried-on raw channels width le start n some h = by (decLt n channels)
         rw (le-ltb n channels deep, same, sample-later g true le raw n some (later raw channels width n h deep))
         (mod-add-mod (w + s) (modulus width) t ∙ ap (λ (x : ℕ). x % modulus width) together ∙ sym (add-mod-mod w (s + t) (modulus width)))
 
--- n times 0
-abbrev pub nothing : ℕ → List ℕ
-nothing zero = []
-nothing (suc n) = 0 ∷ nothing n
-
-zeros : (n j : ℕ) → getD (nothing n) j 0 ≡ 0
-zeros zero j = refl
-zeros (suc n) zero = refl
-zeros (suc n) (suc j) = zeros n j
-
 -- a row that starts from nothing is the row
 pub resumed-none : (raw : List ℕ) (channels width : ℕ) (le out-le : Bool) (old : List ℕ) → 0 < channels → filled (length raw) (storedAt width out-le (resumed raw channels width le (nothing channels))) old ≡ filled (length raw) (undoneAt raw channels width le out-le) old
 resumed-none raw channels width le out-le old some =
@@ -132,7 +109,7 @@ resumed-none raw channels width le out-le old some =
     (rw (zeros channels (k / width % channels), add-zero) (mod-eq-of-lt (sample-below (oneRow raw channels width) true le raw some (k / width)))))
 
 -- a row whose channels' sums are carried along, from any start
-module _ (le : Bool) (start : List ℕ) {raw : List ℕ} {channels width : ℕ} {out-le : Bool} {old : List ℕ} {at : ℕ} {out : List ℕ} (fits : RowFits raw channels width old) (is : Upto (resumed raw channels width le start) width out-le raw old at out) where
+module _ (le : Bool) (start : List ℕ) {raw : List ℕ} {channels width : ℕ} {out-le : Bool} {old : List ℕ} {at : ℕ} {out : List ℕ} (fits : RowFits raw channels width old) (is : Upto (resumed raw channels width le start) width out-le (length raw) old at out) where
   pub sum-room : at < length raw → at + width ≤ length raw
   sum-room more = turn-room is (groups-words (length raw) channels width (fits .groups)) more
 
@@ -143,17 +120,16 @@ module _ (le : Bool) (start : List ℕ) {raw : List ℕ} {channels width : ℕ} 
         let here : wordOf width le raw (at / width) ≡ wordAt raw at width le = ap (λ (k : ℕ). wordAt raw k width le) (back-at is) in
         e ∙ rw (carry, ← here) (sym (carried-on raw channels width le start (at / width) (fits .channel) (in-words is (groups-words (length raw) channels width (fits .groups)) more (fits .wide))))
 
-    pub sum-turned : {new : List ℕ} → Put out at width out-le x new → Upto (resumed raw channels width le start) width out-le raw old (at + width) new
-    sum-turned {new} put = turned is (groups-words (length raw) channels width (fits .groups)) more (fits .room) x new summed-on put
+    pub next-sum : {new : List ℕ} → Put out at width out-le x new → (next : ℕ) → next ≡ at + channels * width → Upto (resumed raw channels width le start) width out-le (length raw) old (at + width) new × (x ≡ carried raw channels width le start (next / width))
+    next-sum {new} put next there =
+        (turned is (groups-words (length raw) channels width (fits .groups)) more (fits .room) x new summed-on put, summed-on ∙ sym (carried-later raw channels width le start (at / width)) ∙ ap (carried raw channels width le start) (sym (ap (λ (k : ℕ). k / width) there ∙ add-mul-div-right at channels (fits .wide))))
 
-    pub sum-carried : (next : ℕ) → next ≡ at + channels * width → x ≡ carried raw channels width le start (next / width)
-    sum-carried next there =
-        summed-on
-        ∙ sym (carried-later raw channels width le start (at / width))
-        ∙ ap (carried raw channels width le start) (sym (ap (λ (k : ℕ). k / width) there ∙ add-mul-div-right at channels (fits .wide)))
+-- a pixel holds a word
+pub pixel-wide : {raw : List ℕ} {channels width : ℕ} {out : List ℕ} → RowFits raw channels width out → width ≤ channels * width
+pixel-wide {raw} {channels} {width} fits = omega (arith, le-mul-of-pos-right {m = channels} width (fits .channel), mul-comm width channels)
 
 -- several channels: word n, with the sample or the word `channels` before it, step bytes back
-module _ {raw : List ℕ} {channels width : ℕ} {out-le : Bool} {old : List ℕ} {at : ℕ} {out : List ℕ} {v : ℕ → ℕ} (fits : RowFits raw channels width old) (is : Upto v width out-le raw old at out) (past : channels * width ≤ at) where
+module _ {raw : List ℕ} {channels width : ℕ} {out-le : Bool} {old : List ℕ} {at : ℕ} {out : List ℕ} {v : ℕ → ℕ} (fits : RowFits raw channels width old) (is : Upto v width out-le (length raw) old at out) (past : channels * width ≤ at) where
   words-whole : length raw % width ≡ 0
   words-whole = groups-words (length raw) channels width (fits .groups)
 
@@ -182,7 +158,7 @@ module _ {raw : List ℕ} {channels width : ℕ} {out-le : Bool} {old : List ℕ
     -- what is read back from the buffer is the word stored there
     pub stored-before : v (at / width - channels) < modulus width → wordAt out (at - channels * width) width out-le ≡ v (at / width - channels)
     stored-before small =
-        let wide : width ≤ channels * width = omega (arith, le-mul-of-pos-right {m = channels} width (fits .channel), mul-comm width channels) in
+        let wide = pixel-wide fits in
         digits-word out (at - channels * width) width out-le (v (at / width - channels)) (λ p h.
         ap (λ (l : List ℕ). getD l (at - channels * width + p) 0) (is .so-far)
         ∙ filled-front at (storedAt width out-le v) old (at - channels * width + p) (omega arith)
@@ -190,7 +166,7 @@ module _ {raw : List ℕ} {channels width : ℕ} {out-le : Bool} {old : List ℕ
         ∙ mod-eq-of-lt small
 
 module _ (le : Bool) {raw : List ℕ} {channels width : ℕ} {out-le : Bool} {old : List ℕ} {at : ℕ} {out : List ℕ} (fits : RowFits raw channels width old) (past : channels * width ≤ at) (more : at < length raw) where
-  pub trail-turned : Upto (sample (oneRow raw channels width) true le raw) width out-le raw old at out → (x : ℕ) (new : List ℕ) → x ≡ plus width (wordAt raw at width le) (wordAt out (at - channels * width) width out-le) → Put out at width out-le x new → Upto (sample (oneRow raw channels width) true le raw) width out-le raw old (at + width) new
+  pub trail-turned : Upto (sample (oneRow raw channels width) true le raw) width out-le (length raw) old at out → (x : ℕ) (new : List ℕ) → x ≡ plus width (wordAt raw at width le) (wordAt out (at - channels * width) width out-le) → Put out at width out-le x new → Upto (sample (oneRow raw channels width) true le raw) width out-le (length raw) old (at + width) new
   trail-turned is x new e put =
       let v = sample (oneRow raw channels width) true le raw in
       let n = at / width in
@@ -201,7 +177,7 @@ module _ (le : Bool) {raw : List ℕ} {channels width : ℕ} {out-le : Bool} {ol
       (sym (sample-later (oneRow raw channels width) true le raw n (fits .channel) (trail-later fits is past more))))
       put
 
-  pub difference-turned : Upto (difference (oneRow raw channels width) true le raw) width out-le raw old at out → (x : ℕ) (new : List ℕ) → x ≡ minus width (wordAt raw at width le) (wordAt raw (at - channels * width) width le) → Put out at width out-le x new → Upto (difference (oneRow raw channels width) true le raw) width out-le raw old (at + width) new
+  pub difference-turned : Upto (difference (oneRow raw channels width) true le raw) width out-le (length raw) old at out → (x : ℕ) (new : List ℕ) → x ≡ minus width (wordAt raw at width le) (wordAt raw (at - channels * width) width le) → Put out at width out-le x new → Upto (difference (oneRow raw channels width) true le raw) width out-le (length raw) old (at + width) new
   difference-turned is x new e put =
       let v = difference (oneRow raw channels width) true le raw in
       let n = at / width in
@@ -212,7 +188,7 @@ module _ (le : Bool) {raw : List ℕ} {channels width : ℕ} {out-le : Bool} {ol
       put
 
 -- a row whose first words are written begins past them
-pub led-upto : (v : ℕ → ℕ) (raw : List ℕ) (channels width : ℕ) (out-le : Bool) (out : List ℕ) → Led (storedAt width out-le v) raw channels width out → Upto v width out-le raw out (channels * width) out
+pub led-upto : (v : ℕ → ℕ) (raw : List ℕ) (channels width : ℕ) (out-le : Bool) (out : List ℕ) → Led (storedAt width out-le v) raw channels width out → Upto v width out-le (length raw) out (channels * width) out
 led-upto v raw channels width out-le out led = record {
   inside = led .step;
   words = mul-mod-left channels width;

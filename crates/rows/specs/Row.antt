@@ -1,23 +1,24 @@
--- What is promised of one row: conversion, and with `forward` forward prediction. A row is a strip of one row, so the definitions
--- are the strip's own. Assumes nothing.
+-- What is promised of a strip's rows and of one row: conversion, and with `forward` forward prediction. A row is a strip of one row, so
+-- the definitions are the strip's own. Assumes nothing.
 use Prim.Native.Nat.{ℕ, _*_, _%_, _≤_, _<_}
 use mathlib.Core.Path.{_≡_}
 use mathlib.Core.Bool.{Bool, true}
-use mathlib.Core.List.{List}
+use mathlib.Core.List.{List, [], _∷_, _++_}
+use lib.Dec.{ltb}
 use lib.ListN.{length, take, getD}
-use Rattle.answer.specs.Outcome.{unless, pick, Promise, doneOutcome}
+use Rattle.answer.specs.Outcome.{unless, outputTooSmall, pick, Promise, doneOutcome, Sound}
 use Rattle.answer.specs.Table.{table, filled}
 use Rattle.answer.specs.declared.Done.{Done}
 use Rattle.samples.specs.Sample.{wordOf, Strip, strip, sample, difference, storedAt}
 use Rattle.words.specs.Word.{plus}
 use Rattle.words.specs.Promises.{served}
-use Rattle.samples.specs.Promises.{convertFaults}
+use Rattle.samples.specs.Promises.{stripFaults, convertFaults}
 
 -- a row as a strip
 abbrev pub oneRow : List ℕ → ℕ → ℕ → Strip
 oneRow raw channels width = strip (length raw) channels width
 
--- the words that are written: a row's samples, or the row predicted
+-- the words that are written: a strip's samples, or the strip predicted
 abbrev pub meant : Bool → Strip → Bool → Bool → List ℕ → ℕ → ℕ
 meant forward g predict le raw = pick forward (difference g predict le raw) (sample g predict le raw)
 
@@ -30,6 +31,15 @@ TransformedInto raw g predict le out-le forward old new = new ≡ filled (length
 
 abbrev pub RowTransformed : List ℕ → ℕ → ℕ → Bool → Bool → Bool → Bool → List ℕ → Done → List ℕ → Type 0
 RowTransformed raw channels width = Transformed raw (oneRow raw channels width)
+
+-- the strip's faults, then that of the room
+abbrev pub RoomChecked : ℕ → Strip → ℕ → Done → Type 0
+RoomChecked bytes g room answer = doneOutcome answer ≡ unless (stripFaults bytes g ++ (outputTooSmall (ltb room bytes) ∷ [])) tt
+
+-- what the loop over a strip's rows needs: a strip without a fault, and room
+pub record StripServed (raw : List ℕ) (g : Strip) (out : List ℕ) : Type 0 where
+  pub sound : Sound (stripFaults (length raw) g)
+  pub room : length raw ≤ length out
 
 -- what the private loops need of a row, and what they do
 pub record RowFits (raw : List ℕ) (channels width : ℕ) (out : List ℕ) : Type 0 where

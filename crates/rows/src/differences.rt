@@ -22,7 +22,8 @@ fn differences_of(raw: &[u8], channels: usize, width: usize, le: bool, out_le: b
     }
 }
 
-// The width and the byte orders are said outright, so that the compiler makes a loop of each.
+// Every arm is the same call: each knows its width and byte orders, and the compiler makes a loop of each; the last serves any other.
+// (The first knows one order too: else the compiler takes it and the last for one.)
 pub(crate) fn differences(
     raw: &[u8],
     channels: usize,
@@ -35,42 +36,48 @@ pub(crate) fn differences(
     ensures { λ r. ⌜ PredictedInto (now (raw .entry)) channels width le «out_le» (now (out .entry)) (now (out .exit)) ⌝ }
 {
     if width == 1 {
-        differences_of(raw, channels, 1, le, out_le, out)
+        if le {
+            differences_of(raw, channels, width, le, out_le, out)
+        } else {
+            differences_of(raw, channels, width, le, out_le, out)
+        }
     } else if width == 2 {
         if le {
             if out_le {
-                differences_of(raw, channels, 2, true, true, out)
+                differences_of(raw, channels, width, le, out_le, out)
             } else {
-                differences_of(raw, channels, 2, true, false, out)
+                differences_of(raw, channels, width, le, out_le, out)
             }
         } else if out_le {
-            differences_of(raw, channels, 2, false, true, out)
+            differences_of(raw, channels, width, le, out_le, out)
         } else {
-            differences_of(raw, channels, 2, false, false, out)
+            differences_of(raw, channels, width, le, out_le, out)
         }
     } else if width == 4 {
         if le {
             if out_le {
-                differences_of(raw, channels, 4, true, true, out)
+                differences_of(raw, channels, width, le, out_le, out)
             } else {
-                differences_of(raw, channels, 4, true, false, out)
+                differences_of(raw, channels, width, le, out_le, out)
             }
         } else if out_le {
-            differences_of(raw, channels, 4, false, true, out)
+            differences_of(raw, channels, width, le, out_le, out)
         } else {
-            differences_of(raw, channels, 4, false, false, out)
+            differences_of(raw, channels, width, le, out_le, out)
         }
-    } else {
+    } else if width == 8 {
         if le {
             if out_le {
-                differences_of(raw, channels, 8, true, true, out)
+                differences_of(raw, channels, width, le, out_le, out)
             } else {
-                differences_of(raw, channels, 8, true, false, out)
+                differences_of(raw, channels, width, le, out_le, out)
             }
         } else if out_le {
-            differences_of(raw, channels, 8, false, true, out)
+            differences_of(raw, channels, width, le, out_le, out)
         } else {
-            differences_of(raw, channels, 8, false, false, out)
+            differences_of(raw, channels, width, le, out_le, out)
         }
+    } else {
+        differences_of(raw, channels, width, le, out_le, out)
     }
 }

@@ -1,21 +1,28 @@
+// A strip's rows, predicted or with prediction undone: each kind of row in a loop of its own, for every width and both byte orders.
 mod differences;
 mod fours;
 mod sums;
 mod threes;
 mod trails;
+mod twos;
 mod word;
 
 use answer::Done;
 use answer::Refusal;
-ghost use Rattle.rows.specs.Row.{RowServed, LeadFits, LedInto, oneRow, UndoneInto, PredictedInto, TransformedInto, RowTransformed};
+ghost use mathlib.Core.Bool.{true};
+ghost use Rattle.samples.specs.Sample.{strip};
+ghost use Rattle.rows.specs.Row.{RowServed, StripServed, RoomChecked, LeadFits, LedInto, oneRow, UndoneInto, PredictedInto, TransformedInto, Transformed, RowTransformed};
 
 // The first words of a row, which stand for themselves.
 fn lead(raw: &[u8], step: usize, width: usize, le: bool, out_le: bool, out: &mut [u8])
     requires { ⌜ LeadFits (now raw) step width (now out) ⌝ }
     ensures { λ r. ⌜ LedInto (now (raw .entry)) step width le «out_le» (now (out .entry)) (now (out .exit)) ⌝ }
 {
-    let start: usize = 0;
-    samples::reorder(&raw[start..step], width, le, out_le, &mut out[start..step]);
+    let mut at: usize = 0;
+    while at < step {
+        word::put(out, at, width, out_le, word::get(raw, at, width, le));
+        at += width;
+    }
 }
 
 fn undo_words(raw: &[u8], channels: usize, width: usize, le: bool, out_le: bool, out: &mut [u8])
@@ -24,6 +31,7 @@ fn undo_words(raw: &[u8], channels: usize, width: usize, le: bool, out_le: bool,
 {
     match channels {
         1 => sums::sums(raw, width, le, out_le, 0, out),
+        2 => twos::twos(raw, width, le, out_le, 0, 0, out),
         3 => threes::threes(raw, width, le, out_le, 0, 0, 0, out),
         4 => fours::fours(raw, width, le, out_le, 0, 0, 0, 0, out),
         _ => {
@@ -65,6 +73,72 @@ fn transform_words(
     }
 }
 
+// Every row, with prediction: it begins anew in each.
+fn predicted_rows(
+    raw: &[u8],
+    row_bytes: usize,
+    channels: usize,
+    width: usize,
+    le: bool,
+    out_le: bool,
+    forward: bool,
+    out: &mut [u8],
+)
+    requires { ⌜ StripServed (now raw) (strip «row_bytes» channels width) (now out) ⌝ }
+    ensures { λ r. ⌜ TransformedInto (now (raw .entry)) (strip «row_bytes» channels width) true le «out_le» forward (now (out .entry)) (now (out .exit)) ⌝ }
+{
+    let mut at: usize = 0;
+    while at < raw.len() {
+        let end = at + row_bytes;
+        let row = &raw[at..end];
+        let to = &mut out[at..end];
+        transform_words(row, channels, width, le, true, out_le, forward, to);
+        at = end;
+    }
+}
+
+// The strip check, then the room.
+fn checked(raw_len: usize, row_bytes: usize, channels: usize, width: usize, out_len: usize) -> Done
+    ensures { λ r. ⌜ RoomChecked «raw_len» (strip «row_bytes» channels width) «out_len» r ⌝ }
+{
+    match samples::check_strip(raw_len, row_bytes, channels, width) {
+        Done::Refused(k) => Done::Refused(k),
+        Done::Done => {
+            if out_len < raw_len {
+                return Done::Refused(Refusal::OutputTooSmall);
+            }
+            Done::Done
+        }
+    }
+}
+
+// A strip: its samples, or with `forward` the strip predicted. Without prediction its words go over all at once.
+pub fn transform_rows(
+    raw: &[u8],
+    row_bytes: usize,
+    channels: usize,
+    width: usize,
+    le: bool,
+    predict: bool,
+    out_le: bool,
+    forward: bool,
+    out: &mut [u8],
+) -> Done
+    ensures { λ r. ⌜ Transformed (now (raw .entry)) (strip «row_bytes» channels width) predict le «out_le» forward (now (out .entry)) r (now (out .exit)) ⌝ }
+{
+    match checked(raw.len(), row_bytes, channels, width, out.len()) {
+        Done::Refused(k) => Done::Refused(k),
+        Done::Done => {
+            if predict {
+                predicted_rows(raw, row_bytes, channels, width, le, out_le, forward, out);
+            } else {
+                samples::reorder(raw, width, le, out_le, out);
+            }
+            Done::Done
+        }
+    }
+}
+
 // One row: its samples, or with `forward` the row predicted.
 pub fn transform_row(
     raw: &[u8],
@@ -78,12 +152,9 @@ pub fn transform_row(
 ) -> Done
     ensures { λ r. ⌜ RowTransformed (now (raw .entry)) channels width predict le «out_le» forward (now (out .entry)) r (now (out .exit)) ⌝ }
 {
-    match samples::check_strip(raw.len(), raw.len(), channels, width) {
+    match checked(raw.len(), raw.len(), channels, width, out.len()) {
         Done::Refused(k) => Done::Refused(k),
         Done::Done => {
-            if out.len() < raw.len() {
-                return Done::Refused(Refusal::OutputTooSmall);
-            }
             transform_words(raw, channels, width, le, predict, out_le, forward, out);
             Done::Done
         }

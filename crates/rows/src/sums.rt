@@ -19,48 +19,55 @@ fn sums_of(raw: &[u8], width: usize, le: bool, out_le: bool, start: u64, out: &m
     }
 }
 
-// The width and the byte orders are said outright, so that the compiler makes a loop of each.
+// Every arm is the same call: each knows its width and byte orders, and the compiler makes a loop of each; the last serves any other.
+// (The first knows one order too: else the compiler takes it and the last for one.)
 pub(crate) fn sums(raw: &[u8], width: usize, le: bool, out_le: bool, start: u64, out: &mut [u8])
     requires { ⌜ (served width ≡ true) × RowFits (now raw) 1 width (now out) ⌝ }
     ensures { λ r. ⌜ ResumedInto (now (raw .entry)) 1 width le «out_le» (start ∷ []) (now (out .entry)) (now (out .exit)) ⌝ }
 {
     if width == 1 {
-        sums_of(raw, 1, le, out_le, start, out)
+        if le {
+            sums_of(raw, width, le, out_le, start, out)
+        } else {
+            sums_of(raw, width, le, out_le, start, out)
+        }
     } else if width == 2 {
         if le {
             if out_le {
-                sums_of(raw, 2, true, true, start, out)
+                sums_of(raw, width, le, out_le, start, out)
             } else {
-                sums_of(raw, 2, true, false, start, out)
+                sums_of(raw, width, le, out_le, start, out)
             }
         } else if out_le {
-            sums_of(raw, 2, false, true, start, out)
+            sums_of(raw, width, le, out_le, start, out)
         } else {
-            sums_of(raw, 2, false, false, start, out)
+            sums_of(raw, width, le, out_le, start, out)
         }
     } else if width == 4 {
         if le {
             if out_le {
-                sums_of(raw, 4, true, true, start, out)
+                sums_of(raw, width, le, out_le, start, out)
             } else {
-                sums_of(raw, 4, true, false, start, out)
+                sums_of(raw, width, le, out_le, start, out)
             }
         } else if out_le {
-            sums_of(raw, 4, false, true, start, out)
+            sums_of(raw, width, le, out_le, start, out)
         } else {
-            sums_of(raw, 4, false, false, start, out)
+            sums_of(raw, width, le, out_le, start, out)
         }
-    } else {
+    } else if width == 8 {
         if le {
             if out_le {
-                sums_of(raw, 8, true, true, start, out)
+                sums_of(raw, width, le, out_le, start, out)
             } else {
-                sums_of(raw, 8, true, false, start, out)
+                sums_of(raw, width, le, out_le, start, out)
             }
         } else if out_le {
-            sums_of(raw, 8, false, true, start, out)
+            sums_of(raw, width, le, out_le, start, out)
         } else {
-            sums_of(raw, 8, false, false, start, out)
+            sums_of(raw, width, le, out_le, start, out)
         }
+    } else {
+        sums_of(raw, width, le, out_le, start, out)
     }
 }

@@ -18,7 +18,8 @@ fn trails_of(raw: &[u8], channels: usize, width: usize, le: bool, out_le: bool, 
     }
 }
 
-// The width and the byte orders are said outright, so that the compiler makes a loop of each.
+// Every arm is the same call: each knows its width and byte orders, and the compiler makes a loop of each; the last serves any other.
+// (The first knows one order too: else the compiler takes it and the last for one.)
 pub(crate) fn trails(
     raw: &[u8],
     channels: usize,
@@ -31,42 +32,48 @@ pub(crate) fn trails(
     ensures { λ r. ⌜ UndoneInto (now (raw .entry)) channels width le «out_le» (now (out .entry)) (now (out .exit)) ⌝ }
 {
     if width == 1 {
-        trails_of(raw, channels, 1, le, out_le, out)
+        if le {
+            trails_of(raw, channels, width, le, out_le, out)
+        } else {
+            trails_of(raw, channels, width, le, out_le, out)
+        }
     } else if width == 2 {
         if le {
             if out_le {
-                trails_of(raw, channels, 2, true, true, out)
+                trails_of(raw, channels, width, le, out_le, out)
             } else {
-                trails_of(raw, channels, 2, true, false, out)
+                trails_of(raw, channels, width, le, out_le, out)
             }
         } else if out_le {
-            trails_of(raw, channels, 2, false, true, out)
+            trails_of(raw, channels, width, le, out_le, out)
         } else {
-            trails_of(raw, channels, 2, false, false, out)
+            trails_of(raw, channels, width, le, out_le, out)
         }
     } else if width == 4 {
         if le {
             if out_le {
-                trails_of(raw, channels, 4, true, true, out)
+                trails_of(raw, channels, width, le, out_le, out)
             } else {
-                trails_of(raw, channels, 4, true, false, out)
+                trails_of(raw, channels, width, le, out_le, out)
             }
         } else if out_le {
-            trails_of(raw, channels, 4, false, true, out)
+            trails_of(raw, channels, width, le, out_le, out)
         } else {
-            trails_of(raw, channels, 4, false, false, out)
+            trails_of(raw, channels, width, le, out_le, out)
         }
-    } else {
+    } else if width == 8 {
         if le {
             if out_le {
-                trails_of(raw, channels, 8, true, true, out)
+                trails_of(raw, channels, width, le, out_le, out)
             } else {
-                trails_of(raw, channels, 8, true, false, out)
+                trails_of(raw, channels, width, le, out_le, out)
             }
         } else if out_le {
-            trails_of(raw, channels, 8, false, true, out)
+            trails_of(raw, channels, width, le, out_le, out)
         } else {
-            trails_of(raw, channels, 8, false, false, out)
+            trails_of(raw, channels, width, le, out_le, out)
         }
+    } else {
+        trails_of(raw, channels, width, le, out_le, out)
     }
 }

@@ -1,41 +1,32 @@
 // Words at a place, and sums of them, for each width. A word's bytes are read, and in a function of their own written, in a straight line, the
-// least significant first, and the word turned as a number: so the compiler makes one load, one swap and one store of them, and many at once.
+// least significant first, and put backwards as a number: so the compiler makes one load, one swap and one store of them, and many at once.
 ghost use mathlib.Core.Path.{_≡_};
 ghost use mathlib.Core.Bool.{true};
 ghost use Prim.Native.Nat.{_+_, _≤_, _<_};
 ghost use lib.ListN.{length};
-ghost use Rattle.words.specs.Word.{wordAt, Put, modulus, plus, minus};
+ghost use Rattle.words.specs.Word.{wordAt, Within, Put, PutHalves, backwards, modulus, plus, minus};
 ghost use Rattle.words.specs.Promises.{served};
 
-pub(crate) fn get1(s: &[u8], at: usize, le: bool) -> u8
-    requires { ⌜ at + 1 ≤ length (now s) ⌝ }
-    ensures { λ r. ⌜ r ≡ wordAt (now (s .entry)) at 1 le ⌝ }
-{
-    s[at]
-}
-
-pub(crate) fn get2(s: &[u8], at: usize, le: bool) -> u16
+fn little2(s: &[u8], at: usize) -> u16
     requires { ⌜ at + 2 ≤ length (now s) ⌝ }
-    ensures { λ r. ⌜ r ≡ wordAt (now (s .entry)) at 2 le ⌝ }
+    ensures { λ r. ⌜ r ≡ wordAt (now (s .entry)) at 2 true ⌝ }
 {
-    let v = words::join2(s[at], s[at + 1]);
-    if le { v } else { words::backwards2(v) }
+    words::join2(s[at + 0], s[at + 1])
 }
 
-pub(crate) fn get4(s: &[u8], at: usize, le: bool) -> u32
+fn little4(s: &[u8], at: usize) -> u32
     requires { ⌜ at + 4 ≤ length (now s) ⌝ }
-    ensures { λ r. ⌜ r ≡ wordAt (now (s .entry)) at 4 le ⌝ }
+    ensures { λ r. ⌜ r ≡ wordAt (now (s .entry)) at 4 true ⌝ }
 {
-    let v = words::join4(s[at], s[at + 1], s[at + 2], s[at + 3]);
-    if le { v } else { words::backwards4(v) }
+    words::join4(s[at + 0], s[at + 1], s[at + 2], s[at + 3])
 }
 
-pub(crate) fn get8(s: &[u8], at: usize, le: bool) -> u64
+fn little8(s: &[u8], at: usize) -> u64
     requires { ⌜ at + 8 ≤ length (now s) ⌝ }
-    ensures { λ r. ⌜ r ≡ wordAt (now (s .entry)) at 8 le ⌝ }
+    ensures { λ r. ⌜ r ≡ wordAt (now (s .entry)) at 8 true ⌝ }
 {
-    let v = words::join8(
-        s[at],
+    words::join8(
+        s[at + 0],
         s[at + 1],
         s[at + 2],
         s[at + 3],
@@ -43,111 +34,99 @@ pub(crate) fn get8(s: &[u8], at: usize, le: bool) -> u64
         s[at + 5],
         s[at + 6],
         s[at + 7],
-    );
-    if le { v } else { words::backwards8(v) }
-}
-
-pub(crate) fn put1(out: &mut [u8], at: usize, le: bool, v: u8)
-    requires { ⌜ at + 1 ≤ length (now out) ⌝ }
-    ensures { λ r. ⌜ Put (now (out .entry)) at 1 le v (now (out .exit)) ⌝ }
-{
-    out[at] = v;
+    )
 }
 
 fn store2(out: &mut [u8], at: usize, v: u16)
-    requires { ⌜ at + 2 ≤ length (now out) ⌝ }
+    requires { ⌜ Within at 2 (now out) ⌝ }
     ensures { λ r. ⌜ Put (now (out .entry)) at 2 true v (now (out .exit)) ⌝ }
 {
-    out[at] = (v % 256) as u8;
+    out[at + 0] = (v / 1 % 256) as u8;
     out[at + 1] = (v / 256 % 256) as u8;
-}
-
-pub(crate) fn put2(out: &mut [u8], at: usize, le: bool, v: u16)
-    requires { ⌜ at + 2 ≤ length (now out) ⌝ }
-    ensures { λ r. ⌜ Put (now (out .entry)) at 2 le v (now (out .exit)) ⌝ }
-{
-    if le {
-        store2(out, at, v);
-    } else {
-        store2(out, at, words::backwards2(v));
-    }
 }
 
 fn store4(out: &mut [u8], at: usize, v: u32)
-    requires { ⌜ at + 4 ≤ length (now out) ⌝ }
+    requires { ⌜ Within at 4 (now out) ⌝ }
     ensures { λ r. ⌜ Put (now (out .entry)) at 4 true v (now (out .exit)) ⌝ }
 {
-    out[at] = (v % 256) as u8;
+    out[at + 0] = (v / 1 % 256) as u8;
     out[at + 1] = (v / 256 % 256) as u8;
     out[at + 2] = (v / 65536 % 256) as u8;
     out[at + 3] = (v / 16777216 % 256) as u8;
-}
-
-pub(crate) fn put4(out: &mut [u8], at: usize, le: bool, v: u32)
-    requires { ⌜ at + 4 ≤ length (now out) ⌝ }
-    ensures { λ r. ⌜ Put (now (out .entry)) at 4 le v (now (out .exit)) ⌝ }
-{
-    if le {
-        store4(out, at, v);
-    } else {
-        store4(out, at, words::backwards4(v));
-    }
 }
 
 fn store8(out: &mut [u8], at: usize, v: u64)
     requires { ⌜ at + 8 ≤ length (now out) ⌝ }
-    ensures { λ r. ⌜ Put (now (out .entry)) at 8 true v (now (out .exit)) ⌝ }
+    ensures { λ r. ⌜ PutHalves (now (out .entry)) at v (now (out .exit)) ⌝ }
 {
-    out[at] = (v % 256) as u8;
-    out[at + 1] = (v / 256 % 256) as u8;
-    out[at + 2] = (v / 65536 % 256) as u8;
-    out[at + 3] = (v / 16777216 % 256) as u8;
-    out[at + 4] = (v / 4294967296 % 256) as u8;
-    out[at + 5] = (v / 1099511627776 % 256) as u8;
-    out[at + 6] = (v / 281474976710656 % 256) as u8;
-    out[at + 7] = (v / 72057594037927936 % 256) as u8;
+    store4(out, at, (v % 4294967296) as u32);
+    store4(out, at + 4, (v / 4294967296) as u32);
 }
 
-pub(crate) fn put8(out: &mut [u8], at: usize, le: bool, v: u64)
-    requires { ⌜ at + 8 ≤ length (now out) ⌝ }
-    ensures { λ r. ⌜ Put (now (out .entry)) at 8 le v (now (out .exit)) ⌝ }
-{
-    if le {
-        store8(out, at, v);
-    } else {
-        store8(out, at, words::backwards8(v));
-    }
-}
-
-// The same for a width that is an argument. With a constant there the compiler keeps one arm.
-pub(crate) fn get(s: &[u8], at: usize, width: usize, le: bool) -> u64
+// The word of a width at a place, the least significant byte first. With a constant width the compiler keeps one arm, here and below.
+fn little(s: &[u8], at: usize, width: usize) -> u64
     requires { ⌜ (served width ≡ true) × (at + width ≤ length (now s)) ⌝ }
-    ensures { λ r. ⌜ (r ≡ wordAt (now (s .entry)) at width le) × (r < modulus width) ⌝ }
+    ensures { λ r. ⌜ r ≡ wordAt (now (s .entry)) at width true ⌝ }
 {
     if width == 1 {
-        get1(s, at, le) as u64
+        s[at] as u64
     } else if width == 2 {
-        get2(s, at, le) as u64
+        little2(s, at) as u64
     } else if width == 4 {
-        get4(s, at, le) as u64
+        little4(s, at) as u64
     } else {
-        get8(s, at, le)
+        little8(s, at)
     }
 }
 
 // The low bytes of any number.
+fn store(out: &mut [u8], at: usize, width: usize, v: u64)
+    requires { ⌜ (served width ≡ true) × (at + width ≤ length (now out)) ⌝ }
+    ensures { λ r. ⌜ Put (now (out .entry)) at width true v (now (out .exit)) ⌝ }
+{
+    if width == 1 {
+        out[at + 0] = (v / 1 % 256) as u8;
+    } else if width == 2 {
+        store2(out, at, (v % 65536) as u16)
+    } else if width == 4 {
+        store4(out, at, (v % 4294967296) as u32)
+    } else {
+        store8(out, at, v)
+    }
+}
+
+// The low bytes of any number, backwards.
+fn backwards(v: u64, width: usize) -> u64
+    requires { ⌜ served width ≡ true ⌝ }
+    ensures { λ r. ⌜ r ≡ backwards width v ⌝ }
+{
+    if width == 1 {
+        v % 256
+    } else if width == 2 {
+        words::backwards2((v % 65536) as u16) as u64
+    } else if width == 4 {
+        words::backwards4((v % 4294967296) as u32) as u64
+    } else {
+        words::backwards8(v)
+    }
+}
+
+pub(crate) fn get(s: &[u8], at: usize, width: usize, le: bool) -> u64
+    requires { ⌜ (served width ≡ true) × (at + width ≤ length (now s)) ⌝ }
+    ensures { λ r. ⌜ r ≡ wordAt (now (s .entry)) at width le ⌝ }
+{
+    let v = little(s, at, width);
+    if le { v } else { backwards(v, width) }
+}
+
 pub(crate) fn put(out: &mut [u8], at: usize, width: usize, le: bool, v: u64)
     requires { ⌜ (served width ≡ true) × (at + width ≤ length (now out)) ⌝ }
     ensures { λ r. ⌜ Put (now (out .entry)) at width le v (now (out .exit)) ⌝ }
 {
-    if width == 1 {
-        put1(out, at, le, (v % 256) as u8)
-    } else if width == 2 {
-        put2(out, at, le, (v % 65536) as u16)
-    } else if width == 4 {
-        put4(out, at, le, (v % 4294967296) as u32)
+    if le {
+        store(out, at, width, v)
     } else {
-        put8(out, at, le, v)
+        store(out, at, width, backwards(v, width))
     }
 }
 

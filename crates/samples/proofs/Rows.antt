@@ -10,7 +10,7 @@ use lib.Dec.{ltb}
 use lib.ListN.{getD}
 use Rattle.words.specs.Word.{modulus}
 use Rattle.words.proofs.Words.{word-same}
-use Rattle.swaps.proofs.Mirror.{into-group}
+use Rattle.laws.proofs.Groups.{into-group}
 use Rattle.samples.specs.Sample.{Strip, Good, alone, wordOf, sample, difference}
 use Rattle.samples.proofs.Sums.{in-row, sample-alone, sample-later, difference-alone, difference-later}
 use Rattle.samples.proofs.Strips.{per-row, width-fits}

@@ -13,7 +13,7 @@ use Rattle.answer.proofs.Filling.{table-at, table-same, table-self}
 use Rattle.words.specs.Digits.{digit}
 use Rattle.words.specs.Word.{ordered, Bytes, wordAt, modulus}
 use Rattle.words.proofs.Words.{word-digit, digits-word}
-use Rattle.swaps.proofs.Mirror.{group-room}
+use Rattle.laws.proofs.Groups.{group-room}
 use Rattle.samples.specs.Sample.{storedAt}
 
 -- byte p of word n

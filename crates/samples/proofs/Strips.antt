@@ -9,14 +9,10 @@ use Rattle.answer.specs.Outcome.{Sound, next, none}
 use Rattle.answer.proofs.Promised.{sound-here, sound-rest}
 use Rattle.words.specs.Promises.{served}
 use Rattle.words.proofs.Served.{served-some}
-use native.Mathlib.Nat.{mod-self, zero-mod, dvd-of-mod-eq-zero, mod-eq-zero-of-dvd, dvd-trans, dvd-mul-left, div-mul-cancel}
-use Rattle.swaps.proofs.Mirror.{group-room}
+use native.Mathlib.Nat.{mod-self, zero-mod, dvd-of-mod-eq-zero, mod-eq-zero-of-dvd, dvd-trans, div-mul-cancel}
+use Rattle.laws.proofs.Groups.{group-room, groups-words}
 use Rattle.samples.specs.Sample.{Strip, strip, Good}
 use Rattle.samples.specs.Promises.{stripFaults}
-
--- whole groups are whole words
-pub groups-words : (n channels width : ℕ) → n % (channels * width) ≡ 0 → n % width ≡ 0
-groups-words n channels width e = mod-eq-zero-of-dvd width (dvd-trans width (dvd-mul-left width channels) (dvd-of-mod-eq-zero (channels * width) e))
 
 module _ (bytes : ℕ) (g : Strip) (good : Good bytes g) where
   pub row-words : g .row % g .width ≡ 0

@@ -1,7 +1,7 @@
 -- Laws of `sample` and `difference`: what the first in its row is, and what a later one is. Proofs cite these, not the definitions.
 -- Assumes nothing.
 use mathlib.Core.Path.{_≡_, refl, ap}
-use mathlib.Core.Bool.{Bool, true, false, not, _||_}
+use mathlib.Core.Bool.{Bool, true, false, not}
 use mathlib.Core.List.{List}
 use Prim.Native.Nat.{ℕ, zero, suc, _-_, _/_, _%_, _≤_, _<_}
 use native.Mathlib.Nat.{mod-le}
@@ -11,10 +11,7 @@ use lib.Dec.{ltb}
 use Rattle.answer.specs.Outcome.{pick}
 use Rattle.words.specs.Word.{modulus, plus, minus}
 use Rattle.samples.specs.Sample.{Strip, alone, summed, wordOf, sample, difference}
-
-pub neither : (a b : Bool) → (a || b) ≡ false → (a ≡ false) × (b ≡ false)
-neither true b e = absurd (let z : _≡_ {A = ℕ} 0 1 = cc in omega arith)
-neither false b e = (refl, e)
+use Rattle.laws.proofs.Says.{neither}
 
 -- a sample that is not alone has one `channels` before it in its row
 pub in-row : (g : Strip) (predict : Bool) (n : ℕ) → alone g predict n ≡ false → g .channels ≤ n % (g .row / g .width)

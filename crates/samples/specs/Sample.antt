@@ -40,7 +40,7 @@ unfoldable pub difference : Strip → Bool → Bool → List ℕ → ℕ → ℕ
 difference g predict le raw n =
     pick (alone g predict n) (wordOf (g .width) le raw n % modulus (g .width)) (minus (g .width) (wordOf (g .width) le raw n) (wordOf (g .width) le raw (n - g .channels)))
 
--- byte k of the words v, stored in a byte order: digit k mod width, turned for big-endian, of word k / width
+-- byte k of the words v, stored in a byte order: of word k / width the digit that stands at byte k mod width
 abbrev pub storedAt : ℕ → Bool → (ℕ → ℕ) → ℕ → ℕ
 storedAt width le v k = digit 256 (ordered le width (k % width)) (v (k / width))
 

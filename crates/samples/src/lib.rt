@@ -1,3 +1,4 @@
+// Samples: what a sample of a strip is, whether a strip has its geometry, and its words in another byte order.
 use answer::Done;
 use answer::Refusal;
 ghost use mathlib.Core.Path.{_≡_};

@@ -1,24 +1,10 @@
 -- The laws of `mirror`, over the width: where it goes from a group's start, that it stays among whole groups, and that twice is nothing. Assumes nothing.
-use mathlib.Core.Path.{_≡_, sym, _∙_}
-use Prim.Native.Nat.{ℕ, _+_, _-_, _*_, _/_, _%_, _≤_, _<_}
-use native.Mathlib.Nat.{div-add-mod, mul-le-mul-left, mul-suc, mod-add-mod, mod-eq-of-lt, mod-lt, mod-le, mul-mod-right, zero-add}
-use native.Mathlib.Decide.{decLt}
+use mathlib.Core.Path.{_≡_, _∙_}
+use Prim.Native.Nat.{ℕ, _+_, _-_, _*_, _/_, _%_, _<_}
+use native.Mathlib.Nat.{div-add-mod, mod-lt, mod-le, mul-mod-right}
 use native.Mathlib.Omega.{arith}
 use Rattle.swaps.specs.Swapped.{mirror}
-
--- between whole groups there is room for a group
-pub group-room : (width n at : ℕ) → n % width ≡ 0 → at % width ≡ 0 → at < n → at + width ≤ n
-group-room width n at hn ha l = by (decLt (at / width) (n / width))
-  where
-    by : Dec (at / width < n / width) → at + width ≤ n
-    by (yes less) = omega (arith, mul-le-mul-left width less, mul-suc width (at / width), div-add-mod n width, div-add-mod at width)
-    by (no more) =
-        let back : n / width ≤ at / width = omega arith in
-        absurd (omega (arith, mul-le-mul-left width back, div-add-mod n width, div-add-mod at width))
-
--- p places into a group
-pub into-group : (width at p : ℕ) → at % width ≡ 0 → p < width → (at + p) % width ≡ p
-into-group width at p ha l = sym (mod-add-mod at width p) ∙ rw (ha, zero-add) (mod-eq-of-lt l)
+use Rattle.laws.proofs.Groups.{group-room, into-group}
 
 pub mirror-at : (width at p : ℕ) → at % width ≡ 0 → p < width → mirror width (at + p) ≡ at + (width - 1 - p)
 mirror-at width at p ha l = rw (into-group width at p ha l) (omega arith)

@@ -8,7 +8,8 @@ use lib.ListN.{length, getD}
 use Rattle.answer.specs.Table.{filled}
 use Rattle.answer.proofs.Filling.{length-stores, stores-filled}
 use Rattle.swaps.specs.Swapped.{swappedAt, SwapFits, SwappedInto, Backwards}
-use Rattle.swaps.proofs.Mirror.{group-room, mirror-at}
+use Rattle.laws.proofs.Groups.{group-room}
+use Rattle.swaps.proofs.Mirror.{mirror-at}
 
 pub record Swapping (raw : List ℕ) (width : ℕ) (old : List ℕ) (at : ℕ) (out : List ℕ) : Type 0 where
   pub inside : at ≤ length raw

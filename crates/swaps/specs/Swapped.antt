@@ -2,13 +2,14 @@
 -- Bytes are moved, never read as numbers. Assumes nothing.
 use Prim.Native.Nat.{ℕ, _+_, _-_, _%_, _≤_, _<_}
 use mathlib.Core.Path.{_≡_}
-use mathlib.Core.Bool.{not}
+use mathlib.Core.Bool.{true, not}
 use mathlib.Core.List.{List, [], _∷_}
 use lib.ListN.{length, getD}
 use lib.Dec.{eqb, ltb}
 use Rattle.answer.specs.Outcome.{Fault, unless, unsupported, invalid, outputTooSmall, Promise, doneOutcome}
 use Rattle.answer.specs.Table.{table, filled, stores}
 use Rattle.answer.specs.declared.Done.{Done}
+use Rattle.words.specs.Word.{wordAt, Put, backwards}
 
 -- the place that mirrors k in its group of `width` bytes
 abbrev pub mirror : ℕ → ℕ → ℕ
@@ -47,3 +48,15 @@ pub record Room (raw : List ℕ) (from n : ℕ) (out : List ℕ) (at : ℕ) : Ty
 
 abbrev pub Backwards : List ℕ → ℕ → ℕ → List ℕ → ℕ → List ℕ → Type 0
 Backwards raw from n old at new = new ≡ stores old at n (λ p. getD raw (from + (n - 1 - p)) 0)
+
+-- the same of a word's bytes: the word that was read, and the word of its bytes backwards, which was stored
+pub record AsWord (Stored : List ℕ → ℕ → ℕ → List ℕ → Type 0) (raw : List ℕ) (from n : ℕ) (old : List ℕ) (at : ℕ) (new : List ℕ) : Type 0 where
+  pub word : ℕ
+  pub read : word ≡ wordAt raw from n true
+  pub other : ℕ
+  pub back : other ≡ backwards n word
+  pub stored : Stored old at other new
+
+-- in one piece
+abbrev pub Whole : ℕ → List ℕ → ℕ → ℕ → List ℕ → Type 0
+Whole n old at v new = Put old at n true v new

@@ -1,3 +1,4 @@
+// Groups of bytes, each written backwards: what a change of byte order is.
 mod back;
 
 use answer::Done;
@@ -5,7 +6,7 @@ use answer::Refusal;
 ghost use Prim.Native.Nat.{_≤_, _<_};
 ghost use Rattle.swaps.specs.Swapped.{Room, Backwards, Swapped, SwapFits, SwappedInto};
 
-// One group.
+// One group: its last bytes first, then those before them.
 fn swap_group(raw: &[u8], at: usize, width: usize, out: &mut [u8])
     requires { ⌜ (0 < width) × (width ≤ 8) × Room (now raw) at width (now out) at ⌝ }
     ensures { λ r. ⌜ Backwards (now (raw .entry)) at width (now (out .entry)) at (now (out .exit)) ⌝ }
@@ -13,11 +14,24 @@ fn swap_group(raw: &[u8], at: usize, width: usize, out: &mut [u8])
     match width {
         1 => back::back1(raw, at, out, at),
         2 => back::back2(raw, at, out, at),
-        3 => back::back3(raw, at, out, at),
+        3 => {
+            back::back1(raw, at + 2, out, at);
+            back::back2(raw, at, out, at + 1)
+        }
         4 => back::back4(raw, at, out, at),
-        5 => back::back5(raw, at, out, at),
-        6 => back::back6(raw, at, out, at),
-        7 => back::back7(raw, at, out, at),
+        5 => {
+            back::back1(raw, at + 4, out, at);
+            back::back4(raw, at, out, at + 1)
+        }
+        6 => {
+            back::back2(raw, at + 4, out, at);
+            back::back4(raw, at, out, at + 2)
+        }
+        7 => {
+            back::back1(raw, at + 6, out, at);
+            back::back2(raw, at + 4, out, at + 1);
+            back::back4(raw, at, out, at + 3)
+        }
         _ => back::back8(raw, at, out, at),
     }
 }

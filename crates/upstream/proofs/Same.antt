@@ -17,7 +17,8 @@ use Rattle.words.specs.Word as Word
 use Rattle.words.specs.Word.{wordAt, ordered}
 use Rattle.words.specs.Promises.{served}
 use Rattle.words.proofs.Words.{word-one}
-use Rattle.words.proofs.Served.{OneOf, served-one}
+use Rattle.words.proofs.Served.{served-one}
+use Rattle.words.proofs.Among.{OneOf}
 use Rattle.transport.specs.Moved as Moved
 use Rattle.samples.specs.Sample as Strips
 use Rattle.samples.specs.Sample.{Strip, alone, summed, wordOf, storedAt}

@@ -5,6 +5,7 @@ use Prim.Native.Nat.{ℕ, zero, suc, _+_, _*_, _/_, _%_, _^_, _≤_, _<_}
 use native.Mathlib.Nat.{pow-zero, pow-suc, pow-succ', one-le-pow, mul-comm, mul-suc, div-one, mod-lt, mod-eq-of-lt, mod-one, add-mul-mod-self-left, add-mul-div-left, div-eq-of-lt, div-div-eq-div-mul, mul-le-mul-left, add-comm}
 use native.Mathlib.Omega.{arith}
 use lib.Arith.{mod-mul}
+use lib.Pow.{pow-add}
 use Rattle.words.specs.Digits.{digit, value}
 
 -- digits that agree give one number
@@ -48,3 +49,22 @@ value-digit b zero v h = sym (rw pow-zero (mod-one v))
 value-digit b (suc n) v h =
     let rest : value b n (λ p. digit b (suc p) v) ≡ v / b % b ^ n = value-same b n _ _ (λ p l. digit-suc b p v) ∙ value-digit b n (v / b) h in
     rw (rest, pow-suc, digit-zero, mod-mul v (one-le-pow n b h) h, mul-comm b (v / b % b ^ n)) (add-comm (v % b) (v / b % b ^ n * b))
+
+-- the first n digits of v are those of v modulo b^n
+pub digit-rest : (b n v p : ℕ) → 0 < b → p < n → digit b p (v % b ^ n) ≡ digit b p v
+digit-rest b n v p h l =
+    ap (digit b p) (sym (value-digit b n v h)) ∙ digit-value b n (λ q. digit b q v) (λ q m. digit-below b q v h) p l
+
+-- and the others those of v divided by b^n
+pub digit-over : (b n v p : ℕ) → digit b p (v / b ^ n) ≡ digit b (n + p) v
+digit-over b n v p = rw (pow-add, ← div-div-eq-div-mul)
+
+-- a number is 0 exactly if all its digits are
+pub value-none : (n : ℕ) (f : ℕ → ℕ) → ((p : ℕ) → p < n → f p ≡ 0) → value 256 n f ≡ 0
+value-none zero f e = refl
+value-none (suc n) f e = rw (e 0 (omega arith), value-none n (λ p. f (suc p)) (λ p h. e (suc p) (omega arith)))
+
+pub none-value : (n : ℕ) (f : ℕ → ℕ) → value 256 n f ≡ 0 → (p : ℕ) → p < n → f p ≡ 0
+none-value zero f e p h = absurd (omega arith)
+none-value (suc n) f e zero h = omega arith
+none-value (suc n) f e (suc p) h = none-value n (λ q. f (suc q)) (omega arith) p (omega arith)

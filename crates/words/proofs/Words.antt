@@ -1,10 +1,10 @@
 -- The laws of words, over the width: what a word's digits are and what word a number's digits make, in either byte order;
 -- that adding and taking away modulo 256^width undo each other. Assumes nothing.
-use mathlib.Core.Path.{_≡_, refl, ap, _∙_}
+use mathlib.Core.Path.{_≡_, refl, sym, ap, _∙_}
 use mathlib.Core.Bool.{Bool, true, false}
 use mathlib.Core.List.{List}
 use Prim.Native.Nat.{ℕ, _+_, _-_, _%_, _<_}
-use native.Mathlib.Nat.{add-zero, div-one, one-le-pow, mod-lt, mod-eq-of-lt, mod-add-mod, add-mod-right}
+use native.Mathlib.Nat.{add-zero, div-one, one-le-pow, mod-lt, mod-eq-of-lt, mod-add-mod, add-mod-right, add-comm}
 use native.Mathlib.Omega.{arith}
 use lib.ListN.{getD}
 use Rattle.words.specs.Digits.{digit}
@@ -15,7 +15,7 @@ pub ordered-below : (le : Bool) (width p : ℕ) → p < width → ordered le wid
 ordered-below true width p h = h
 ordered-below false width p h = omega arith
 
--- turning twice is nothing
+-- the other order of the other order is the first
 pub ordered-twice : (le : Bool) (width p : ℕ) → p < width → ordered le width (ordered le width p) ≡ p
 ordered-twice true width p h = refl
 ordered-twice false width p h = omega arith
@@ -57,6 +57,13 @@ backwards-digit width v p h = digit-value 256 width (λ q. digit 256 (ordered fa
 pub word-backwards : (s : List ℕ) (at width : ℕ) → Bytes s → backwards width (wordAt s at width true) ≡ wordAt s at width false
 word-backwards s at width b = value-same 256 width _ _ (λ p h. word-digit s at width true b (ordered false width p) (ordered-below false width p h))
 
+-- so a word that was read little-endian is the word asked for, as it is or backwards
+pub word-straight : (s : List ℕ) (at width : ℕ) (le : Bool) (v : ℕ) → le ≡ true → v ≡ wordAt s at width true → v ≡ wordAt s at width le
+word-straight s at width le v e is = rw e is
+
+pub word-other : (s : List ℕ) (at width : ℕ) (le : Bool) (v r : ℕ) → Bytes s → le ≡ false → v ≡ wordAt s at width true → r ≡ backwards width v → r ≡ wordAt s at width le
+word-other s at width le v r b e is back = rw e (back ∙ ap (backwards width) is ∙ word-backwards s at width b)
+
 -- bytes that agree make one word
 pub word-same : (s t : List ℕ) (i j width : ℕ) (le : Bool) → ((p : ℕ) → p < width → getD s (i + p) 0 ≡ getD t (j + p) 0) → wordAt s i width le ≡ wordAt t j width le
 word-same s t i j width le e = value-same 256 width _ _ (λ p h. e (ordered le width p) (ordered-below le width p h))
@@ -79,3 +86,13 @@ minus-plus width a b ha hb =
     let m = modulus width in
     let round : a + (m - b) + b ≡ a + m = omega arith in
     mod-add-mod (a + (m - b)) m b ∙ ap (λ (x : ℕ). x % m) round ∙ add-mod-right a m ∙ mod-eq-of-lt ha
+
+-- `plus` cancels, on either side
+pub plus-left : (width a c b : ℕ) → a < modulus width → c < modulus width → b < modulus width → plus width a b ≡ plus width c b → a ≡ c
+plus-left width a c b ha hc hb e = sym (plus-minus width a b ha hb) ∙ ap (λ (x : ℕ). minus width x b) e ∙ plus-minus width c b hc hb
+
+plus-swapped : (width a b : ℕ) → plus width a b ≡ plus width b a
+plus-swapped width a b = ap (λ (x : ℕ). x % modulus width) (add-comm a b)
+
+pub plus-right : (width a b d : ℕ) → a < modulus width → b < modulus width → d < modulus width → plus width a b ≡ plus width a d → b ≡ d
+plus-right width a b d ha hb hd e = plus-left width b d a hb hd ha (plus-swapped width b a ∙ e ∙ plus-swapped width a d)

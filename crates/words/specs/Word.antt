@@ -1,10 +1,11 @@
 -- TIFF 6.0's words: the first byte is the least significant when `le`, the most significant otherwise. One definition for any width.
 -- And sums and differences of words, modulo 256^width. Assumes nothing.
-use Prim.Native.Nat.{ℕ, _+_, _-_, _%_, _^_, _<_}
+use Prim.{Unit}
+use Prim.Native.Nat.{ℕ, zero, suc, _+_, _-_, _/_, _%_, _^_, _<_}
 use mathlib.Core.Path.{_≡_}
 use mathlib.Core.Bool.{Bool, true, false}
 use mathlib.Core.List.{List}
-use lib.ListN.{getD}
+use lib.ListN.{length, getD}
 use Rattle.answer.specs.Table.{stores}
 use Rattle.words.specs.Digits.{digit, value}
 
@@ -24,6 +25,17 @@ wordAt s at width le = value 256 width (λ p. getD s (at + ordered le width p) 0
 -- a word's digits stored at a place, in a byte order
 abbrev pub Put : List ℕ → ℕ → ℕ → Bool → ℕ → List ℕ → Type 0
 Put old at width le v new = new ≡ stores old at width (λ p. digit 256 (ordered le width p) v)
+
+-- the n places from `at` on, one by one: what n stores in a row need
+abbrev pub Within : ℕ → ℕ → List ℕ → Type 0
+Within at zero s = Unit {0}
+Within at (suc n) s = Within at n s × (at + n < length s)
+
+-- a word of eight bytes stored as its halves, the low one first
+pub record PutHalves (old : List ℕ) (at v : ℕ) (new : List ℕ) : Type 0 where
+  pub between : List ℕ
+  pub low : Put old at 4 true (v % 4294967296) between
+  pub high : Put between (at + 4) 4 true (v / 4294967296) new
 
 -- the word whose bytes are those of v, backwards
 abbrev pub backwards : ℕ → ℕ → ℕ

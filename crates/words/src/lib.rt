@@ -1,3 +1,4 @@
+// Words: two, four or eight bytes as one number, in either byte order, and the byte that stands for itself.
 use answer::ByteAt;
 use answer::Refusal;
 use answer::SampleAt;
@@ -107,28 +108,26 @@ pub fn byte_place(i: SampleAt, width: usize, length: usize) -> Place
     Place::At(ByteAt(n * width))
 }
 
-fn get2(s: &[u8], at: usize, le: bool) -> u16
+fn little2(s: &[u8], at: usize) -> u16
     requires { ⌜ at + 2 ≤ length (now s) ⌝ }
-    ensures { λ r. ⌜ r ≡ wordAt (now (s .entry)) at 2 le ⌝ }
+    ensures { λ r. ⌜ r ≡ wordAt (now (s .entry)) at 2 true ⌝ }
 {
-    let v = join2(s[at], s[at + 1]);
-    if le { v } else { backwards2(v) }
+    join2(s[at + 0], s[at + 1])
 }
 
-fn get4(s: &[u8], at: usize, le: bool) -> u32
+fn little4(s: &[u8], at: usize) -> u32
     requires { ⌜ at + 4 ≤ length (now s) ⌝ }
-    ensures { λ r. ⌜ r ≡ wordAt (now (s .entry)) at 4 le ⌝ }
+    ensures { λ r. ⌜ r ≡ wordAt (now (s .entry)) at 4 true ⌝ }
 {
-    let v = join4(s[at], s[at + 1], s[at + 2], s[at + 3]);
-    if le { v } else { backwards4(v) }
+    join4(s[at + 0], s[at + 1], s[at + 2], s[at + 3])
 }
 
-fn get8(s: &[u8], at: usize, le: bool) -> u64
+fn little8(s: &[u8], at: usize) -> u64
     requires { ⌜ at + 8 ≤ length (now s) ⌝ }
-    ensures { λ r. ⌜ r ≡ wordAt (now (s .entry)) at 8 le ⌝ }
+    ensures { λ r. ⌜ r ≡ wordAt (now (s .entry)) at 8 true ⌝ }
 {
-    let v = join8(
-        s[at],
+    join8(
+        s[at + 0],
         s[at + 1],
         s[at + 2],
         s[at + 3],
@@ -136,8 +135,7 @@ fn get8(s: &[u8], at: usize, le: bool) -> u64
         s[at + 5],
         s[at + 6],
         s[at + 7],
-    );
-    if le { v } else { backwards8(v) }
+    )
 }
 
 fn get(s: &[u8], at: usize, width: usize, le: bool) -> u64
@@ -147,11 +145,14 @@ fn get(s: &[u8], at: usize, width: usize, le: bool) -> u64
     if width == 1 {
         s[at] as u64
     } else if width == 2 {
-        get2(s, at, le) as u64
+        let v = little2(s, at);
+        if le { v as u64 } else { backwards2(v) as u64 }
     } else if width == 4 {
-        get4(s, at, le) as u64
+        let v = little4(s, at);
+        if le { v as u64 } else { backwards4(v) as u64 }
     } else {
-        get8(s, at, le)
+        let v = little8(s, at);
+        if le { v } else { backwards8(v) }
     }
 }
 
@@ -178,25 +179,15 @@ fn load_width(wide: bool) -> usize
     if wide { 2 } else { 1 }
 }
 
-fn load_at(s: &[u8], at: usize, wide: bool, le: bool) -> u32
-    requires { ⌜ at + loadWidth wide ≤ length (now s) ⌝ }
-    ensures { λ r. ⌜ r ≡ wordAt (now (s .entry)) at (loadWidth wide) le ⌝ }
-{
-    if wide {
-        get2(s, at, le) as u32
-    } else {
-        s[at] as u32
-    }
-}
-
 // Sample i of one byte, or of two if `wide`.
 pub fn load(s: &[u8], i: SampleAt, wide: bool, le: bool) -> Loaded
     ensures { λ r. ⌜ LoadedWord (now (s .entry)) (i .0) wide le r ⌝ }
 {
-    match byte_place(i, load_width(wide), s.len()) {
+    let width = load_width(wide);
+    match byte_place(i, width, s.len()) {
         Place::At(at) => {
             let at = at.0;
-            Loaded::Value(load_at(s, at, wide, le))
+            Loaded::Value(get(s, at, width, le) as u32)
         }
         Place::Refused(k) => Loaded::Refused(k),
     }

@@ -9,7 +9,7 @@ use lib.ListN.{length, getD, set}
 use Rattle.answer.specs.Outcome.{pick}
 use Rattle.answer.specs.Table.{filled, stores}
 use Rattle.answer.proofs.Filling.{stores-filled, length-filled, filled-all}
-use Rattle.swaps.proofs.Mirror.{group-room}
+use Rattle.laws.proofs.Groups.{group-room}
 use Rattle.layout.specs.Layout.{highFirst}
 use Rattle.pixels.proofs.Places.{group-of, item-of}
 use Rattle.writing.specs.Parts.{channelAt, ChannelFits, ChannelInto}

@@ -1,58 +1,39 @@
--- `rows::transform_row` meets its promise: the strip check's faults first, then the room. Assumes nothing.
+-- `rows::transform_row` meets its promise: it refuses as the check does, and past it writes the row. Assumes nothing.
 use borrow.Author.Needs.{needs}
-use borrow.Author.Tests.{lt-ltb, le-ltb}
-use native.Mathlib.Omega.{arith}
 use lib.ListN.{length}
 use denote.Ref.{now}
-use Rattle.answer.specs.Outcome.{here, next, none, Sound}
-use Rattle.answer.proofs.Promised.{passed, stopped, refuses, finishes, first-more, sound-then, sound-more}
-use Rattle.samples.specs.Sample.{storedAt}
-use Rattle.samples.specs.Promises.{stripFaults, convertFaults}
-use Rattle.rows.specs.Row.{oneRow, meant}
-use Rattle.rows.proofs.Checked.{row-served}
+use mathlib.Core.List.{List}
+use Rattle.answer.specs.Outcome.{Fault, Sound}
+use Rattle.answer.proofs.Promised.{passed, stopped, refuses, finishes}
+use Rattle.samples.specs.Promises.{convertFaults}
+use Rattle.rows.specs.Row.{oneRow}
+use Rattle.rows.proofs.Rows.{row-served, strip-served}
 use Rattle.rows.proofs.transform_row.Statement.{statement}
 use Rattle.rows.proofs.transform_row.Tie as tie
 
-check-strip-requires : tie.Need-check-strip-requires
-check-strip-requires c κs = search needs
+abbrev start : (c : tie.After-checked) → tie.Start
+start c = c .before .before .before
 
-enum-known-k : tie.Need-enum-known-k
-enum-known-k c = search needs
-
-enum-told : tie.Need-enum-told
-enum-told c = search needs
+abbrev faults : (c : tie.After-checked) → List Fault
+faults c = let args = start c .args in convertFaults (now (args .raw)) (oneRow (now (args .raw)) (args .channels) (args .width)) (now (args .out))
 
 -- the check found no fault
-checked : (c : tie.After-enum-told) → let args = c .before .before .before .before .before .args in Sound (stripFaults (length (now (args .raw))) (oneRow (now (args .raw)) (args .channels) (args .width)))
-checked c =
-    let args = c .before .before .before .before .before .args in
-    passed (stripFaults (length (now (args .raw))) (oneRow (now (args .raw)) (args .channels) (args .width))) (c .before .before .check-strip .result) (c .before .before .check-strip .ensures) (c .enum-told .given .1)
-
-returns : tie.Need-returns
-returns c =
-    let args = c .before .before .before .before .before .before .args in
-    refuses (convertFaults (now (args .raw)) (oneRow (now (args .raw)) (args .channels) (args .width)) (now (args .out))) tt _ _ (sound-then (checked (c .before)) (here (lt-ltb (length (now (args .out))) (length (now (args .raw))) (omega (arith, c .if1 .taken)))))
-
-transform-words-requires : tie.Need-transform-words-requires
-transform-words-requires c κs =
-    let args = c .before .before .before .before .before .before .before .args in
-    row-served (now (args .raw)) (args .channels) (args .width) _ (checked (c .before .before)) (c .before .if1 .left)
-
-returns-2 : tie.Need-returns-2
-returns-2 c =
-    let args = c .before .before .before .before .before .before .args in
-    let check = stripFaults (length (now (args .raw))) (oneRow (now (args .raw)) (args .channels) (args .width)) in
-    refuses (convertFaults (now (args .raw)) (oneRow (now (args .raw)) (args .channels) (args .width)) (now (args .out))) tt _ _
-    (first-more _ (stopped check (c .before .before .before .check-strip .result) (c .before .k .given .0 .0) (c .before .before .before .check-strip .ensures) (c .before .k .given .1)))
-
-same-length : tie.Need-same-length
-same-length c = search needs
-
-returns-3 : tie.Need-returns-3
-returns-3 c =
-    let args = c .before .before .before .before .before .before .before .before .before .before .args in
-    finishes (convertFaults (now (args .raw)) (oneRow (now (args .raw)) (args .channels) (args .width)) (now (args .out))) tt (length (now (args .raw))) (storedAt (args .width) (args .out-le) (meant (args .forward) (oneRow (now (args .raw)) (args .channels) (args .width)) (args .predict) (args .le) (now (args .raw)))) _ _
-    (sound-more (checked (c .before .before .before .before .before)) (next (le-ltb (length (now (args .out))) (length (now (args .raw))) (omega (arith, c .before .before .before .before .if1 .left))) none)) (c .before .before .transform-words .ensures)
+sound : (c : tie.After-enum-told) → Sound (faults (c .before .before))
+sound c = let call = c .before .before in passed (faults call) (call .checked .result) (call .checked .ensures) (c .enum-told .given .1)
 
 pub transform-row-spec : {M : Type 1} → statement M
-transform-row-spec = tie.close (tie.spec check-strip-requires enum-known-k enum-told returns transform-words-requires returns-2 same-length returns-3)
+transform-row-spec =
+    tie.close
+    (tie.spec
+    (λ c κs. search needs)
+    (λ c. search needs)
+    (λ c. search needs)
+    (λ c κs. let told = c .before in row-served _ _ _ _ (strip-served _ _ _ (sound told)))
+    (λ c.
+    let call = c .before .before .before in
+    refuses (faults call) tt _ _ (stopped (faults call) (call .checked .result) (c .before .k .given .0 .0) (call .checked .ensures) (c .before .k .given .1)))
+    (λ c. search needs)
+    (λ c.
+    let gone = c .before .before in
+    let told = gone .before .before in
+    finishes (faults (told .before .before)) tt (length (now (start (told .before .before) .args .raw))) _ _ _ (sound told) (gone .transform-words .ensures)))

@@ -1,31 +1,16 @@
--- `swaps::swap_group` meets its contract: each arm stores its number of bytes. Assumes nothing.
+-- `swaps::swap_group` meets its contract: each arm stores its number of bytes, at once or the last of them first. Assumes nothing.
 use borrow.Author.Needs.{needs}
 use mathlib.Core.Path.{_≡_}
 use native.Mathlib.Omega.{arith}
-use Prim.Native.Nat.{ℕ, _≤_, _<_}
+use Prim.Native.Nat.{ℕ, _+_, _≤_, _<_}
+use denote.Ref.{now}
+use Rattle.words.specs.Word.{Bytes}
+use Rattle.swaps.proofs.Backward.{as-word, as-halves, last-then-first}
 use Rattle.swaps.proofs.swap_group.Statement.{statement}
 use Rattle.swaps.proofs.swap_group.Tie as tie
 
-back1-requires : tie.Need-back1-requires
-back1-requires c κs = rw (c .before .match .keys1) at (c .before .before .before .before .pre .2)
-
-back2-requires : tie.Need-back2-requires
-back2-requires c κs = rw (c .before .match .keys2) at (c .before .before .before .before .pre .2)
-
-back3-requires : tie.Need-back3-requires
-back3-requires c κs = rw (c .before .match .keys3) at (c .before .before .before .before .pre .2)
-
-back4-requires : tie.Need-back4-requires
-back4-requires c κs = rw (c .before .match .keys4) at (c .before .before .before .before .pre .2)
-
-back5-requires : tie.Need-back5-requires
-back5-requires c κs = rw (c .before .match .keys5) at (c .before .before .before .before .pre .2)
-
-back6-requires : tie.Need-back6-requires
-back6-requires c κs = rw (c .before .match .keys6) at (c .before .before .before .before .pre .2)
-
-back7-requires : tie.Need-back7-requires
-back7-requires c κs = rw (c .before .match .keys7) at (c .before .before .before .before .pre .2)
+bytes : (c : tie.After-shared-slice-known) → Bytes (now (c .before .args .raw))
+bytes c i = omega (arith, c .shared-slice-known .given i)
 
 past-four : (w : ℕ) → 0 < w → (w ≡ 1 → ⊥) → (w ≡ 2 → ⊥) → (w ≡ 3 → ⊥) → (w ≡ 4 → ⊥) → 4 < w
 past-four w some a b c d = omega arith
@@ -37,85 +22,92 @@ only-eight w past few a b c = omega arith
 eight : (c : tie.At-match-rest) → c .before .before .before .args .width ≡ 8
 eight c =
     let pre = c .before .before .before .pre in
-    let some = past-four _ (pre .0) (c .match .rest .0 .0 .0 .0 .0 .0 .1) (c .match .rest .0 .0 .0 .0 .0 .1) (c .match .rest .0 .0 .0 .0 .1) (c .match .rest .0 .0 .0 .1) in
+    let first = c .match .rest .0 .0 .0 in
+    let some = past-four _ (pre .0) (first .0 .0 .0 .1) (first .0 .0 .1) (first .0 .1) (first .1) in
     only-eight _ some (pre .1) (c .match .rest .0 .0 .1) (c .match .rest .0 .1) (c .match .rest .1)
-
-back8-requires : tie.Need-back8-requires
-back8-requires c κs = rw (eight (c .before)) at (c .before .before .before .before .pre .2)
-
-same-length : tie.Need-same-length
-same-length c = search needs
-
-returns : tie.Need-returns
-returns c = rw (c .before .before .before .before .match .keys1) (c .before .before .back1 .ensures)
-
-same-length-2 : tie.Need-same-length-2
-same-length-2 c = search needs
-
-returns-2 : tie.Need-returns-2
-returns-2 c = rw (c .before .before .before .before .match .keys2) (c .before .before .back2 .ensures)
-
-same-length-3 : tie.Need-same-length-3
-same-length-3 c = search needs
-
-returns-3 : tie.Need-returns-3
-returns-3 c = rw (c .before .before .before .before .match .keys3) (c .before .before .back3 .ensures)
-
-same-length-4 : tie.Need-same-length-4
-same-length-4 c = search needs
-
-returns-4 : tie.Need-returns-4
-returns-4 c = rw (c .before .before .before .before .match .keys4) (c .before .before .back4 .ensures)
-
-same-length-5 : tie.Need-same-length-5
-same-length-5 c = search needs
-
-returns-5 : tie.Need-returns-5
-returns-5 c = rw (c .before .before .before .before .match .keys5) (c .before .before .back5 .ensures)
-
-same-length-6 : tie.Need-same-length-6
-same-length-6 c = search needs
-
-returns-6 : tie.Need-returns-6
-returns-6 c = rw (c .before .before .before .before .match .keys6) (c .before .before .back6 .ensures)
-
-same-length-7 : tie.Need-same-length-7
-same-length-7 c = search needs
-
-returns-7 : tie.Need-returns-7
-returns-7 c = rw (c .before .before .before .before .match .keys7) (c .before .before .back7 .ensures)
-
-same-length-8 : tie.Need-same-length-8
-same-length-8 c = search needs
-
-returns-8 : tie.Need-returns-8
-returns-8 c = rw (eight (c .before .before .before .before)) (c .before .before .back8 .ensures)
 
 pub swap-group-spec : {M : Type 1} → statement M
 swap-group-spec =
     tie.close
     (tie.spec
-    back1-requires
-    back2-requires
-    back3-requires
-    back4-requires
-    back5-requires
-    back6-requires
-    back7-requires
-    back8-requires
-    same-length
-    returns
-    same-length-2
-    returns-2
-    same-length-3
-    returns-3
-    same-length-4
-    returns-4
-    same-length-5
-    returns-5
-    same-length-6
-    returns-6
-    same-length-7
-    returns-7
-    same-length-8
-    returns-8)
+    (λ c κs. search needs)
+    (λ c κs. search needs)
+    (λ c. search needs)
+    (λ c κs. search needs)
+    (λ c. search needs)
+    (λ c κs. search needs)
+    (λ c κs. search needs)
+    (λ c. search needs)
+    (λ c κs. search needs)
+    (λ c. search needs)
+    (λ c κs. search needs)
+    (λ c. search needs)
+    (λ c κs. search needs)
+    (λ c. search needs)
+    (λ c κs. search needs)
+    (λ c. search needs)
+    (λ c κs. search needs)
+    (λ c. search needs)
+    (λ c. search needs)
+    (λ c κs. search needs)
+    (λ c. search needs)
+    (λ c κs. search needs)
+    (λ c κs. rw (eight (c .before)) at (c .before .before .before .before .pre .2))
+    (λ c. search needs)
+    (λ c.
+    let first = c .before .before in
+    let arm = first .before .before in
+    let known = arm .before .before in
+    rw (arm .match .keys1) (first .back1 .ensures))
+    (λ c. search needs)
+    (λ c.
+    let first = c .before .before in
+    let arm = first .before .before in
+    let known = arm .before .before in
+    rw (arm .match .keys2) (as-word (bytes known) 2 (first .back2 .ensures)))
+    (λ c. search needs)
+    (λ c.
+    let second = c .before .before in
+    let first = second .before .before .before .before in
+    let arm = first .before .before in
+    let known = arm .before .before in
+    let args = known .before .args in
+    rw (arm .match .keys3) (last-then-first (now (args .raw)) (args .at) 1 2 (now (args .out)) _ (args .at) _ (first .back12 .ensures) (as-word (bytes known) 2 (second .back22 .ensures))))
+    (λ c. search needs)
+    (λ c.
+    let first = c .before .before in
+    let arm = first .before .before in
+    let known = arm .before .before in
+    rw (arm .match .keys4) (as-word (bytes known) 4 (first .back4 .ensures)))
+    (λ c. search needs)
+    (λ c.
+    let second = c .before .before in
+    let first = second .before .before .before .before in
+    let arm = first .before .before in
+    let known = arm .before .before in
+    let args = known .before .args in
+    rw (arm .match .keys5) (last-then-first (now (args .raw)) (args .at) 1 4 (now (args .out)) _ (args .at) _ (first .back13 .ensures) (as-word (bytes known) 4 (second .back42 .ensures))))
+    (λ c. search needs)
+    (λ c.
+    let second = c .before .before in
+    let first = second .before .before .before .before in
+    let arm = first .before .before in
+    let known = arm .before .before in
+    let args = known .before .args in
+    rw (arm .match .keys6) (last-then-first (now (args .raw)) (args .at) 2 4 (now (args .out)) _ (args .at) _ (as-word (bytes known) 2 (first .back23 .ensures)) (as-word (bytes known) 4 (second .back43 .ensures))))
+    (λ c. search needs)
+    (λ c.
+    let third = c .before .before in
+    let second = third .before .before .before .before in
+    let first = second .before .before .before .before in
+    let arm = first .before .before in
+    let known = arm .before .before in
+    let args = known .before .args in
+    let raw = now (args .raw) in
+    let far : args .at + 6 ≡ args .at + 4 + 2 = omega arith in
+    rw (arm .match .keys7) (last-then-first raw (args .at) 3 4 (now (args .out)) _ (args .at) _ (last-then-first raw (args .at + 4) 1 2 (now (args .out)) _ (args .at) _ (rw far at (first .back14 .ensures)) (as-word (bytes known) 2 (second .back24 .ensures))) (as-word (bytes known) 4 (third .back44 .ensures))))
+    (λ c. search needs)
+    (λ c.
+    let done = c .before .before in
+    let arm = done .before .before in
+    rw (eight arm) (as-halves (bytes (arm .before .before)) (done .back8 .ensures))))

@@ -13,32 +13,27 @@ Inv-loop raw width out₀ at₀ out at = Swapping raw width out₀ at out
 abbrev μ-loop : tie.MeasureT-loop
 μ-loop raw width out₀ at₀ out at = length raw - at
 
-loop-holds : tie.Need-loop-holds Inv-loop μ-loop
-loop-holds c = begun _ _ _
-
-swap-group-requires : tie.Need-swap-group-requires Inv-loop μ-loop
-swap-group-requires c κs =
-    let at = c .before .before in
-    let fits = at .before .before .before .pre in
-    let there = room fits (at .loop .inv) (c .before .loop-test .taken) in
-    (fits .some, fits .few, record { there = there; here = omega (arith, there, fits .room, at .loop .inv .same) })
-
-add-at : tie.Need-add-at Inv-loop μ-loop
-add-at c = omega arith
-
-loop-less : tie.Need-loop-less Inv-loop μ-loop
-loop-less c = omega arith
-
-loop-again : tie.Need-loop-again Inv-loop μ-loop
-loop-again c =
-    let at = c .before .before .before .before .before in
-    turned (at .before .before .before .pre) (at .loop .inv) (c .before .before .before .before .loop-test .taken) _ (c .before .before .swap-group .ensures)
-
-same-length : tie.Need-same-length Inv-loop μ-loop
-same-length c = search needs
-
-returns : tie.Need-returns Inv-loop μ-loop
-returns c = let at = c .before in ended (at .before .before .before .pre) (at .loop .inv) (c .loop-test .left)
+abbrev start : (c : tie.At-loop Inv-loop μ-loop) → tie.Start Inv-loop μ-loop
+start c = c .before .before .before
 
 pub swap-groups-spec : {M : Type 1} → statement M
-swap-groups-spec = tie.close (tie.spec Inv-loop μ-loop loop-holds swap-group-requires add-at loop-less loop-again same-length returns)
+swap-groups-spec =
+    tie.close
+    (tie.spec
+    Inv-loop
+    μ-loop
+    (λ c. begun _ _ _)
+    (λ c κs.
+    let at = c .before .before in
+    let fits = start at .pre in
+    let there = room fits (at .loop .inv) (c .before .loop-test .taken) in
+    (fits .some, fits .few, record { there = there; here = omega (arith, there, fits .room, at .loop .inv .same) }))
+    (λ c. omega arith)
+    (λ c. omega arith)
+    (λ c.
+    let swapped = c .before .before in
+    let in-loop = swapped .before .before in
+    let at = in-loop .before in
+    turned (start at .pre) (at .loop .inv) (in-loop .loop-test .taken) _ (swapped .swap-group .ensures))
+    (λ c. search needs)
+    (λ c. ended (start (c .before) .pre) (c .before .loop .inv) (c .loop-test .left)))

@@ -3,21 +3,21 @@
 use borrow.Author.Needs.{needs}
 use native.Mathlib.Nat.{zero-mod, add-mod-right}
 use native.Mathlib.Omega.{arith}
-use Prim.Native.Nat.{ℕ, _+_, _-_, _*_, _/_, _%_, _≤_, _<_}
-use mathlib.Core.Path.{_≡_, ap, _∙_}
+use Prim.Native.Nat.{_+_, _-_, _*_, _/_, _%_, _≤_}
+use mathlib.Core.Path.{_≡_, _∙_}
 use mathlib.Core.List.{[], _∷_}
 use lib.ListN.{length}
 use denote.Ref.{now}
-use Rattle.swaps.proofs.Mirror.{group-room}
+use Rattle.laws.proofs.Groups.{group-room}
 use Rattle.rows.specs.Row.{resumed}
-use Rattle.rows.proofs.Loops.{Upto, upto-none, carried, carried-start, sum-turned, sum-carried, ended}
+use Rattle.rows.proofs.Loops.{Upto, upto-none, carried, carried-start, next-sum, ended}
 use Rattle.rows.proofs.threes.threes_of.Statement.{statement}
 use Rattle.rows.proofs.threes.threes_of.Tie as tie
 
 abbrev Inv-loop : tie.InvT-loop
 Inv-loop raw width le out-le start-a start-b start-c out₀ a₀ b₀ c₀ at₀ out a b c at =
     let from = start-a ∷ start-b ∷ start-c ∷ [] in
-    Upto (resumed raw 3 width le from) width out-le raw out₀ at out
+    Upto (resumed raw 3 width le from) width out-le (length raw) out₀ at out
     × (at % (3 * width) ≡ 0)
     × (a ≡ carried raw 3 width le from (at / width))
     × (b ≡ carried raw 3 width le from ((at + width) / width))
@@ -25,6 +25,25 @@ Inv-loop raw width le out-le start-a start-b start-c out₀ a₀ b₀ c₀ at₀
 
 abbrev μ-loop : tie.MeasureT-loop
 μ-loop raw width le out-le start-a start-b start-c out₀ a₀ b₀ c₀ at₀ out a b c at = length raw - at
+
+abbrev start : (c : tie.In-loop Inv-loop μ-loop) → tie.Start Inv-loop μ-loop
+start c = c .before .before .before .before
+
+-- the turn, from its sums and from each store on
+abbrev summed : (c : tie.After-sum3 Inv-loop μ-loop) → tie.In-loop Inv-loop μ-loop
+summed c = c .before .before .before
+
+abbrev stored : (c : tie.After-put Inv-loop μ-loop) → tie.After-sum3 Inv-loop μ-loop
+stored c = c .before .before
+
+abbrev stored2 : (c : tie.After-put2 Inv-loop μ-loop) → tie.After-put Inv-loop μ-loop
+stored2 c = c .before .before .before .before
+
+abbrev stored3 : (c : tie.After-put3 Inv-loop μ-loop) → tie.After-put2 Inv-loop μ-loop
+stored3 c = c .before .before .before .before
+
+abbrev turn : (c : tie.After-put3 Inv-loop μ-loop) → tie.In-loop Inv-loop μ-loop
+turn c = summed (stored (stored2 (stored3 c)))
 
 loop-holds : tie.Need-loop-holds Inv-loop μ-loop
 loop-holds c =
@@ -37,38 +56,37 @@ loop-holds c =
     )
 
 -- a whole pixel is there
-room : (c : tie.In-loop Inv-loop μ-loop) → let args = c .before .before .before .before .args in c .before .loop .at + 3 * args .width ≤ length (now (args .raw))
-room c = let start = c .before .before .before .before in group-room (3 * start .args .width) _ (c .before .loop .at) (start .pre .1 .groups) (c .before .loop .inv .1) (c .loop-test .taken)
+room : (c : tie.In-loop Inv-loop μ-loop) → c .before .loop .at + 3 * start c .args .width ≤ length (now (start c .args .raw))
+room c = group-room (3 * start c .args .width) _ (c .before .loop .at) (start c .pre .1 .groups) (c .before .loop .inv .1) (c .loop-test .taken)
 
 -- and room for it
-free : (c : tie.In-loop Inv-loop μ-loop) → c .before .loop .at + 3 * c .before .before .before .before .args .width ≤ length (c .before .loop .out)
-free c = omega (arith, room c, c .before .loop .inv .0 .same, c .before .before .before .before .pre .1 .room)
+free : (c : tie.In-loop Inv-loop μ-loop) → c .before .loop .at + 3 * start c .args .width ≤ length (c .before .loop .out)
+free c = omega (arith, room c, c .before .loop .inv .0 .same, start c .pre .1 .room)
 
 loop-again : tie.Need-loop-again Inv-loop μ-loop
-loop-again c =
-    let in-loop = c .before .before .before .before .before .before .before .before .before .before .before .before .before .before .before in
+loop-again e =
+    let c-put = e .before .before in
+    let b-put = stored3 c-put in
+    let a-put = stored2 b-put in
+    let c-sum = stored a-put in
+    let b-sum = c-sum .before in
+    let a-sum = b-sum .before in
+    let in-loop = a-sum .before in
     let at = in-loop .before .loop in
-    let start = in-loop .before .before .before .before in
-    let fits = start .pre .1 in
-    let le = start .args .le in
-    let from = start .args .start-a ∷ start .args .start-b ∷ start .args .start-c ∷ [] in
-    let w = start .args .width in
-    let raw = now (start .args .raw) in
-    let more-a : at .at < length raw = omega (arith, room in-loop, fits .wide) in
-    let a-is = c .before .before .before .before .before .before .before .before .before .before .before .before .before .before .sum .ensures in
-    let upto-a = sum-turned le from fits (at .inv .0) more-a (at .inv .2) a-is (c .before .before .before .before .before .before .before .before .before .before .put .ensures) in
-    let more-b : at .at + w < length raw = omega (arith, room in-loop, fits .wide) in
-    let b-is = c .before .before .before .before .before .before .before .before .before .before .before .before .before .sum2 .ensures in
-    let upto-b = sum-turned le from fits upto-a more-b (at .inv .3) b-is (c .before .before .before .before .before .before .put2 .ensures) in
-    let more-c : at .at + w + w < length raw = omega (arith, room in-loop, fits .wide) in
-    let c-is = c .before .before .before .before .before .before .before .before .before .before .before .before .sum3 .ensures in
-    let upto-c = sum-turned le from fits upto-b more-c (at .inv .4) c-is (c .before .before .put3 .ensures) in
+    let fits = start in-loop .pre .1 in
+    let args = start in-loop .args in
+    let le = args .le in
+    let from = args .start-a ∷ args .start-b ∷ args .start-c ∷ [] in
+    let w = args .width in
+    let a-next = next-sum le from fits (at .inv .0) (omega (arith, room in-loop, fits .wide)) (at .inv .2) (a-sum .sum .ensures) (a-put .put .ensures) (at .at + 3 * w) (omega arith) in
+    let b-next = next-sum le from fits (a-next .0) (omega (arith, room in-loop, fits .wide)) (at .inv .3) (b-sum .sum2 .ensures) (b-put .put2 .ensures) (at .at + 3 * w + w) (omega arith) in
+    let c-next = next-sum le from fits (b-next .0) (omega (arith, room in-loop, fits .wide)) (at .inv .4) (c-sum .sum3 .ensures) (c-put .put3 .ensures) (at .at + 3 * w + w + w) (omega arith) in
     let on : at .at + w + w + w ≡ at .at + 3 * w = omega arith in (
-      upto-c,
-      ap (λ (k : ℕ). k % (3 * w)) on ∙ add-mod-right (at .at) (3 * w) ∙ at .inv .1,
-      sum-carried le from fits (at .inv .0) more-a (at .inv .2) a-is _ (omega arith),
-      sum-carried le from fits upto-a more-b (at .inv .3) b-is _ (omega arith),
-      sum-carried le from fits upto-b more-c (at .inv .4) c-is _ (omega arith),
+      rw on at (c-next .0),
+      add-mod-right (at .at) (3 * w) ∙ at .inv .1,
+      a-next .1,
+      b-next .1,
+      c-next .1,
     )
 
 pub threes-of-spec : {M : Type 1} → statement M
@@ -78,16 +96,17 @@ threes-of-spec =
     Inv-loop
     μ-loop
     loop-holds
-    (λ c. omega (arith, room c, c .before .before .before .before .good))
-    (λ c. omega (arith, room c, c .before .before .before .before .good))
-    (λ c κs. (c .before .before .before .before .pre .0, omega (arith, room c)))
-    (λ c κs. (c .before .before .before .before .before .pre .0, omega (arith, room (c .before))))
-    (λ c κs. (c .before .before .before .before .before .before .pre .0, omega (arith, room (c .before .before))))
-    (λ c κs. (c .before .before .before .before .before .before .before .before .pre .0, omega (arith, free (c .before .before .before .before))))
-    (λ c κs. (c .before .before .before .before .before .before .before .before .before .before .before .before .pre .0, omega (arith, free (c .before .before .before .before .before .before .before .before))))
-    (λ c κs. (c .before .before .before .before .before .before .before .before .before .before .before .before .before .before .before .before .pre .0, omega (arith, free (c .before .before .before .before .before .before .before .before .before .before .before .before))))
-    (λ c. omega (arith, room (c .before .before .before .before .before .before .before .before .before .before .before .before .before .before .before), c .before .before .before .before .before .before .before .before .before .before .before .before .before .before .before .before .before .before .before .good))
-    (λ c. omega (arith, room (c .before .before .before .before .before .before .before .before .before .before .before .before .before .before .before), c .before .before .before .before .before .before .before .before .before .before .before .before .before .before .before .before .before .before .before .pre .1 .wide))
+    (λ c. omega (arith, room c, start c .good))
+    (λ c. omega (arith, room c, start c .good))
+    (λ c κs. let in-loop = c in (start in-loop .pre .0, omega (arith, room in-loop)))
+    (λ c κs. let in-loop = c .before in (start in-loop .pre .0, omega (arith, room in-loop)))
+    (λ c κs. let in-loop = c .before .before in (start in-loop .pre .0, omega (arith, room in-loop)))
+    (λ c κs. let in-loop = summed (c .before) in (start in-loop .pre .0, omega (arith, free in-loop)))
+    (λ c κs. let in-loop = summed (stored (c .before .before .before)) in (start in-loop .pre .0, omega (arith, free in-loop)))
+    (λ c κs. let in-loop = summed (stored (stored2 (c .before .before .before))) in (start in-loop .pre .0, omega (arith, free in-loop)))
+    (λ c. let in-loop = turn (c .before .before) in omega (arith, room in-loop, start in-loop .good))
+    (λ c. let in-loop = turn (c .before .before) in omega (arith, room in-loop, start in-loop .good))
+    (λ c. let in-loop = turn (c .before .before) in omega (arith, room in-loop, start in-loop .pre .1 .wide))
     loop-again
     (λ c. search needs)
     (λ c. ended (c .before .loop .inv .0) (c .loop-test .left)))

@@ -21,4 +21,4 @@ add-spec =
     (λ c. rw (c .before .if1 .taken) (omega (arith, c .wrapping-add-u64 .ensures)))
     (λ c. rw (c .before .if2 .taken) (omega (arith, c .wrapping-add-u642 .ensures)))
     (λ c. rw (c .before .if3 .taken) (omega (arith, c .wrapping-add-u643 .ensures)))
-    (λ c. rw (eight (c .before)) (c .wrapping-add-u644 .ensures)))
+    (λ c. rw (eight (c .before)) (omega (arith, c .wrapping-add-u644 .ensures))))

@@ -12,4 +12,4 @@ sum-spec =
     (tie.spec
     (λ c κs. search needs)
     (λ c κs. search needs)
-    (λ c. let args = c .before .before .before .args in c .add .ensures ∙ ap (λ (x : ℕ). plus (args .width) x (args .so-far)) (c .before .get .ensures .0)))
+    (λ c. let args = c .before .before .before .args in c .add .ensures ∙ ap (λ (x : ℕ). plus (args .width) x (args .so-far)) (c .before .get .ensures)))
