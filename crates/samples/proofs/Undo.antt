@@ -1,16 +1,20 @@
--- Forward prediction then conversion, and conversion then forward prediction, give the first bytes back: for every strip of bytes, good
+-- Forward prediction then conversion, and conversion then forward prediction, succeed and give the first bytes back: for every strip of bytes, good
 -- geometry, byte orders and prediction flag, shown once over the width. Assumes nothing.
-use mathlib.Core.Path.{_≡_, refl, sym, ap, _∙_}
+use mathlib.Core.Path.{_≡_, refl, sym, ap, subst, _∙_}
 use mathlib.Core.Bool.{Bool, true, false}
-use mathlib.Core.List.{List}
+use mathlib.Core.List.{List, [], _∷_}
 use Prim.Native.Nat.{ℕ, zero, suc, _+_, _-_, _*_, _%_, _≤_, _<_}
 use native.Mathlib.Nat.{mod-lt, mod-eq-of-lt, mul-le-mul-right}
 use native.Mathlib.Omega.{arith}
-use lib.ListN.{length, take}
-use Rattle.answer.specs.Outcome.{Sound}
+use borrow.Author.Tests.{ltb-false, le-ltb}
+use lib.ListN.{length, take, length-take}
+use lib.Dec.{ltb}
+use Rattle.answer.specs.Outcome.{Sound, next, none, done, unless, outputTooSmall, Promise, doneOutcome}
 use Rattle.answer.specs.Table.{table}
+use Rattle.answer.specs.declared.Done.{Done}
 use Rattle.answer.specs.declared.Done.the-variants as Done-is
-use Rattle.answer.proofs.Promised.{second-over-first, done-sound, sound-front}
+use Rattle.answer.proofs.Promised.{second-over-first, stays, done-once, done-sound, sound-done, sound-front, sound-back, sound-here, sound-more}
+use Rattle.answer.proofs.Filling.{length-table}
 use Rattle.words.specs.Word.{Bytes, modulus}
 use Rattle.words.proofs.Words.{modulus-pos, word-below, plus-below, minus-below, plus-minus, minus-plus}
 use Rattle.samples.specs.Sample.{Strip, Good, alone, wordOf, sample, difference, storedAt}
@@ -99,15 +103,43 @@ module _ (g : Strip) (predict le out-le : Bool) (raw : List ℕ) (good : Good (l
 good-strip : (raw : List ℕ) (g : Strip) (old : List ℕ) → Sound (convertFaults raw g old) → Good (length raw) g
 good-strip raw g old s = good-checked (length raw) g (sound-front (stripFaults (length raw) g) _ s)
 
-module _ (raw old x old′ y : List ℕ) (g : Strip) (predict le out-le : Bool) (b : Bytes raw) where
-  pub forward-then-convert : Forwarded raw g predict le out-le old Done-is.Done x → Converted (take (length raw) x) g predict out-le le old′ Done-is.Done y → take (length raw) y ≡ raw
-  forward-then-convert p q =
-      let good = good-strip raw g old (done-sound (convertFaults raw g old) tt tt (sym (p .answers))) in
-      second-over-first (length raw) (storedAt (g .width) out-le (difference g predict le raw)) (λ l. storedAt (g .width) le (sample g predict out-le l)) old x old′ y tt tt p q
-      ∙ forward-converted g predict le out-le raw good b
+-- a second call over what the first wrote has no fault either, where there is room
+second-sound : (raw old x old′ : List ℕ) (g : Strip) → Sound (convertFaults raw g old) → length x ≡ length old → length raw ≤ length old′ → Sound (convertFaults (take (length raw) x) g old′)
+second-sound raw old x old′ g s same room =
+    let front = stripFaults (length raw) g in
+    let last = outputTooSmall (ltb (length old) (length raw)) ∷ [] in
+    let fits = ltb-false (length old) (length raw) (sound-here (sound-back front last s)) in
+    let long : length (take (length raw) x) ≡ length raw = length-take (length raw) x ∙ omega arith in
+    rw long (sound-more (sound-front front last s) (next (le-ltb (length old′) (length raw) room) none))
 
-  pub convert-then-forward : Converted raw g predict le out-le old Done-is.Done x → Forwarded (take (length raw) x) g predict out-le le old′ Done-is.Done y → take (length raw) y ≡ raw
+module _ (raw old x old′ y : List ℕ) (g : Strip) (predict le out-le : Bool) (b : Bytes raw) (answer : Done) (room : length raw ≤ length old′) where
+  -- what the first call has shown, and so the second call's answer
+  module _ (v : ℕ → ℕ) (p : Promise (unless (convertFaults raw g old) tt) (table (length raw) v) old (done (tt {0})) x) where
+    sound : Sound (convertFaults raw g old)
+    sound = done-sound (convertFaults raw g old) tt tt (sym (p .answers))
+
+    second-done : doneOutcome answer ≡ unless (convertFaults (take (length raw) x) g old′) tt → answer ≡ Done-is.Done
+    second-done q =
+        let fits = ltb-false (length old) (length raw) (sound-here (sound-back (stripFaults (length raw) g) (outputTooSmall (ltb (length old) (length raw)) ∷ []) sound)) in
+        let same = stays (done tt) x (omega (arith, length-table (length raw) v)) p in
+        done-once answer Done-is.Done (q ∙ sound-done tt (second-sound raw old x old′ g sound same room))
+
+  pub forward-then-convert : Forwarded raw g predict le out-le old Done-is.Done x → Converted (take (length raw) x) g predict out-le le old′ answer y → (answer ≡ Done-is.Done) × (take (length raw) y ≡ raw)
+  forward-then-convert p q =
+      let v = storedAt (g .width) out-le (difference g predict le raw) in
+      let is = second-done v p (q .answers) in
+      let good = good-strip raw g old (sound v p) in (
+        is,
+        second-over-first (length raw) v (λ l. storedAt (g .width) le (sample g predict out-le l)) old x old′ y tt tt p (subst (λ (a : Done). Converted (take (length raw) x) g predict out-le le old′ a y) is q)
+        ∙ forward-converted g predict le out-le raw good b,
+      )
+
+  pub convert-then-forward : Converted raw g predict le out-le old Done-is.Done x → Forwarded (take (length raw) x) g predict out-le le old′ answer y → (answer ≡ Done-is.Done) × (take (length raw) y ≡ raw)
   convert-then-forward p q =
-      let good = good-strip raw g old (done-sound (convertFaults raw g old) tt tt (sym (p .answers))) in
-      second-over-first (length raw) (storedAt (g .width) out-le (sample g predict le raw)) (λ l. storedAt (g .width) le (difference g predict out-le l)) old x old′ y tt tt p q
-      ∙ converted-forward g predict le out-le raw good b
+      let v = storedAt (g .width) out-le (sample g predict le raw) in
+      let is = second-done v p (q .answers) in
+      let good = good-strip raw g old (sound v p) in (
+        is,
+        second-over-first (length raw) v (λ l. storedAt (g .width) le (difference g predict out-le l)) old x old′ y tt tt p (subst (λ (a : Done). Forwarded (take (length raw) x) g predict out-le le old′ a y) is q)
+        ∙ converted-forward g predict le out-le raw good b,
+      )
