@@ -131,7 +131,7 @@ module _ (raw old x old′ y : List ℕ) (g : Strip) (predict le out-le : Bool) 
       let good = good-strip raw g old (sound v p) in (
         is,
         second-over-first (length raw) v (λ l. storedAt (g .width) le (sample g predict out-le l)) old x old′ y tt tt p (subst (λ (a : Done). Converted (take (length raw) x) g predict out-le le old′ a y) is q)
-        ∙ forward-converted g predict le out-le raw good b,
+            ∙ forward-converted g predict le out-le raw good b,
       )
 
   pub convert-then-forward : Converted raw g predict le out-le old Done-is.Done x → Forwarded (take (length raw) x) g predict out-le le old′ answer y → (answer ≡ Done-is.Done) × (take (length raw) y ≡ raw)
@@ -141,5 +141,5 @@ module _ (raw old x old′ y : List ℕ) (g : Strip) (predict le out-le : Bool) 
       let good = good-strip raw g old (sound v p) in (
         is,
         second-over-first (length raw) v (λ l. storedAt (g .width) le (difference g predict out-le l)) old x old′ y tt tt p (subst (λ (a : Done). Forwarded (take (length raw) x) g predict out-le le old′ a y) is q)
-        ∙ converted-forward g predict le out-le raw good b,
+            ∙ converted-forward g predict le out-le raw good b,
       )
