@@ -68,14 +68,14 @@ high-first-below bytes (inl e) le n j whole h = rw e h
 high-first-below bytes (inr e) true n j whole h = let even : n % 2 ≡ 0 = rw e at whole in rw e (omega arith)
 high-first-below bytes (inr e) false n j whole h = rw e h
 
-turned-mirror : {bytes : ℕ} → OneOrTwo bytes → (k : ℕ) → mirror bytes k ≡ highFirst bytes true k
+high-first-mirror : {bytes : ℕ} → OneOrTwo bytes → (k : ℕ) → mirror bytes k ≡ highFirst bytes true k
 unfolding highFirst
-turned-mirror (inl e) k = rw e (omega arith)
-turned-mirror (inr e) k = rw e (omega arith)
+high-first-mirror (inl e) k = rw e (omega arith)
+high-first-mirror (inr e) k = rw e (omega arith)
 
-turned-same : (bytes k : ℕ) → k ≡ highFirst bytes false k
+high-first-same : (bytes k : ℕ) → k ≡ highFirst bytes false k
 unfolding highFirst
-turned-same bytes k = by (eqb bytes 2)
+high-first-same bytes k = by (eqb bytes 2)
   where
     by : (b : Bool) → k ≡ pick (b && false) (k - k % 2 + 1 - k % 2) k
     by true = refl
@@ -89,5 +89,5 @@ stored-high-first raw b {bytes} width le out-le k = by (xor le out-le) refl
     some (inr e) = omega arith
 
     by : (d : Bool) → xor le out-le ≡ d → storedAt bytes out-le (wordOf bytes le raw) k ≡ getD raw (highFirst bytes d k) 0
-    by true e = other-order raw b bytes (some width) k le out-le e ∙ ap (λ (i : ℕ). getD raw i 0) (turned-mirror width k)
-    by false e = same-order raw b bytes (some width) k le out-le e ∙ ap (λ (i : ℕ). getD raw i 0) (turned-same bytes k)
+    by true e = other-order raw b bytes (some width) k le out-le e ∙ ap (λ (i : ℕ). getD raw i 0) (high-first-mirror width k)
+    by false e = same-order raw b bytes (some width) k le out-le e ∙ ap (λ (i : ℕ). getD raw i 0) (high-first-same bytes k)

@@ -1,4 +1,4 @@
--- What is done to bytes in place once they stand in the picture's order: white turned over, colours beside alpha made straight. Assumes nothing.
+-- What is done to bytes in place once they stand in the picture's order: white inverted, colours beside alpha made straight. Assumes nothing.
 use Prim.Native.Nat.{ℕ, _+_, _-_, _%_, _<_}
 use mathlib.Core.Path.{_≡_}
 use mathlib.Core.Bool.{Bool, not}
@@ -10,7 +10,7 @@ use Rattle.answer.specs.Table.{table, filled, stores}
 use Rattle.answer.specs.declared.Done.{Done}
 use Rattle.pixels.specs.Render.{straightColour}
 
--- every byte turned over; it never refuses
+-- every byte inverted; it never refuses
 abbrev pub Inverted : List ℕ → List ℕ → Type 0
 Inverted old new = new ≡ table (length old) (λ k. 255 - getD old k 0)
 

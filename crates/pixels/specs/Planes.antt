@@ -19,7 +19,7 @@ placeIndex l i =
     let within = i % l .«plane_len» in
     pick (l .fields .separate) (within / l .fields .bytes * stride + highFirst (l .fields .bytes) (l .fields .le) (i / l .«plane_len» * l .fields .bytes + within % l .fields .bytes)) (i / stride * stride + highFirst (l .fields .bytes) (l .fields .le) (i % stride))
 
--- white turns every channel over but alpha, and so byte k
+-- white inverts every channel but alpha, and so byte k
 abbrev pub flipsChannel : RasterLayout → ℕ → Bool
 flipsChannel l c = l .fields .white && (eqb (l .fields .alpha) 0 || not (eqb c (l .fields .ch - 1)))
 

@@ -21,7 +21,7 @@ rowBytes l = l .fields .w * (l .fields .ch * l .fields .bytes)
 abbrev pub planeRow : RasterLayout → ℕ
 planeRow l = l .«encoded_width» * l .«plane_channels»
 
--- white is 0: the byte turned over
+-- white is 0: the byte inverted
 abbrev pub flipped : Bool → ℕ → ℕ
 flipped white v = pick white (255 - v) v
 

@@ -1,3 +1,4 @@
+// Pixels: what is done to bytes of a picture once they stand in its order. What a rendered and a written byte is stands in specs/.
 use answer::Done;
 use answer::Refusal;
 ghost use mathlib.Core.Path.{_≡_};
@@ -6,7 +7,7 @@ ghost use lib.ListN.{length};
 ghost use Rattle.pixels.specs.Render.{flipped, highByte, straightened, straightColour};
 ghost use Rattle.pixels.specs.Finish.{Inverted, Straightened, PixelStraightened, PixelsStraightened, WholePixels};
 
-// A byte turned over where white is 0.
+// A byte, inverted where white is 0.
 pub fn flip(white: bool, v: u8) -> u8
     ensures { λ r. ⌜ r ≡ flipped white v ⌝ }
 {
@@ -39,7 +40,7 @@ fn colour(v: u8, a: u8, multiplied: bool, white: bool) -> u8
     if multiplied { straighten(u, a) } else { u }
 }
 
-// Every byte turned over, in place.
+// Every byte inverted, in place.
 pub fn invert(s: &mut [u8])
     ensures { λ r. ⌜ Inverted (now (s .entry)) (now (s .exit)) ⌝ }
 {
@@ -86,7 +87,7 @@ fn straighten_pixels(s: &mut [u8], channels: usize, multiplied: bool, white: boo
     }
 }
 
-// Colours beside alpha, in place: divided by it if they were multiplied, turned over where white is 0. Each pixel's last byte is its alpha.
+// Colours beside alpha, in place: divided by it if they were multiplied, inverted where white is 0. Each pixel's last byte is its alpha.
 pub fn straighten_row(s: &mut [u8], channels: usize, multiplied: bool, white: bool) -> Done
     ensures { λ r. ⌜ Straightened (now (s .entry)) channels multiplied white r (now (s .exit)) ⌝ }
 {

@@ -69,8 +69,8 @@ fn unsupported(p: &[usize]) -> bool {
 // The 8-byte rule: neither white nor palette nor alpha, slots 1, 1 or 3 channels.
 fn eight_rule(p: &[usize]) -> bool {
     let ch = at(p, CH);
-    let turned = on(p, WHITE) || on(p, PALETTE) || at(p, ALPHA) != 0;
-    at(p, BYTES) != 8 || !turned && at(p, SLOTS) == 1 && (ch == 1 || ch == 3)
+    let unplain = on(p, WHITE) || on(p, PALETTE) || at(p, ALPHA) != 0;
+    at(p, BYTES) != 8 || !unplain && at(p, SLOTS) == 1 && (ch == 1 || ch == 3)
 }
 
 // The alpha rule: 1 byte, 2 or 4 channels, no palette.

@@ -1,4 +1,4 @@
--- What is promised of bytes that are moved and never read as numbers: a copy, each byte's bits reversed, each group of bytes written backwards.
+-- What is promised of bytes that are moved and never read as numbers: a copy, and each byte's bits reversed.
 -- The refusals are document 01's, in its order. Assumes nothing.
 use Prim.Native.Nat.{ℕ, _-_}
 use mathlib.Core.Path.{_≡_}

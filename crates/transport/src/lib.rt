@@ -1,3 +1,4 @@
+// Bytes moved and never read as numbers: a copy, and the bits of every byte reversed.
 use answer::Done;
 use answer::Refusal;
 ghost use mathlib.Core.Path.{_≡_};

@@ -1,4 +1,4 @@
--- `pixels::invert` meets its promise: what is filled is turned over, the rest is as it was. Assumes nothing.
+-- `pixels::invert` meets its promise: what is filled is inverted, the rest is as it was. Assumes nothing.
 use borrow.Author.Needs.{needs}
 use native.Mathlib.Omega.{arith}
 use Prim.Native.Nat.{ℕ, _-_, _≤_}
