@@ -68,3 +68,7 @@ pub zeros : (n j : ℕ) → getD (nothing n) j 0 ≡ 0
 zeros zero j = refl
 zeros (suc n) zero = refl
 zeros (suc n) (suc j) = zeros n j
+
+-- a buffer filled so far takes one element more
+pub filled-one : (f : ℕ → ℕ) (old : List ℕ) {out : List ℕ} (n : ℕ) {v : ℕ} → out ≡ filled n f old → v ≡ f n → n < length old → set out n v ≡ filled (n + 1) f old
+filled-one f old n s is h = rw (is, s) (filled-more n f old h)

@@ -1,9 +1,9 @@
--- What `pick` comes to once its test is known. Assumes nothing.
+-- What `pick` and `xor` come to once a test is known. Assumes nothing.
 use Prim.Native.Nat.{ℕ, _<_}
-use mathlib.Core.Path.{_≡_}
+use mathlib.Core.Path.{_≡_, refl}
 use mathlib.Core.Bool.{Bool, true, false}
 use native.Mathlib.Omega.{arith}
-use Rattle.answer.specs.Outcome.{pick}
+use Rattle.answer.specs.Outcome.{pick, xor}
 
 pub picked : {b : Bool} (x y : ℕ) → b ≡ true → pick b x y ≡ x
 picked x y e = rw e
@@ -14,3 +14,12 @@ not-picked x y e = rw e
 pub pick-below : (b : Bool) {v : ℕ} → v < 2 → pick b v 0 < 2
 pick-below true h = h
 pick-below false h = omega arith
+
+-- the same either way
+pub pick-same : {A : Type 0} (b : Bool) (x : A) → pick b x x ≡ x
+pick-same true x = refl
+pick-same false x = refl
+
+pub xor-false : (b : Bool) → xor b false ≡ b
+xor-false true = refl
+xor-false false = refl

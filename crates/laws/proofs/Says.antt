@@ -1,12 +1,13 @@
 -- A test of the definitions and the plain fact that it stands for: each gives the other. Rules are put together from tests as facts are from facts.
 -- Assumes nothing.
-use Prim.Native.Nat.{ℕ}
-use mathlib.Core.Path.{_≡_, refl, sym}
+use Prim.Native.Nat.{ℕ, zero, suc, _+_, _-_, _≤_, _<_}
+use mathlib.Core.Path.{_≡_, refl, sym, ap, _∙_}
 use mathlib.Core.Bool.{Bool, true, false, not, _&&_, _||_}
 use mathlib.Core.Logic.{_⊎_, inl, inr}
+use native.Mathlib.Decide.{decLt}
 use native.Mathlib.Omega.{arith}
-use borrow.Author.Tests.{eq-eqb, eqb-true, not-true}
-use lib.Dec.{eqb}
+use borrow.Author.Tests.{eq-eqb, eqb-true, not-true, lt-ltb, le-ltb, ltb-false}
+use lib.Dec.{eqb, ltb}
 
 pub record Says (b : Bool) (P : Type 0) : Type 0 where
   pub tells : b ≡ true → P
@@ -85,3 +86,29 @@ restated s to from = record { tells = λ e. to (s .tells e); told = λ q. s .tol
 pub neither : (a b : Bool) → (a || b) ≡ false → (a ≡ false) × (b ≡ false)
 neither true b e = absurd (let z : _≡_ {A = ℕ} 0 1 = cc in omega arith)
 neither false b e = (refl, e)
+
+-- what is left is compared instead of a sum that may be too large
+pub left-over : (n a b : ℕ) → a ≤ n → ltb (n - a) b ≡ ltb n (a + b)
+left-over n a b h = by (decLt (n - a) b)
+  where
+    by : Dec (n - a < b) → ltb (n - a) b ≡ ltb n (a + b)
+    by (yes l) = lt-ltb (n - a) b l ∙ sym (lt-ltb n (a + b) (omega arith))
+    by (no g) = le-ltb (n - a) b (omega arith) ∙ sym (le-ltb n (a + b) (omega arith))
+
+-- a bound that is asked for on a condition
+pub inside-if : (on : Bool) (n end : ℕ) → (on && ltb n end) ≡ false → on ≡ true → end ≤ n
+inside-if true n end e is = ltb-false n end e
+inside-if false n end e is = clash is refl
+
+nowhere : (b : Bool) → (b && false) ≡ false
+nowhere true = refl
+nowhere false = refl
+
+-- `all n` is that every test below n holds: one that fails is enough
+pub one-fails : (all test : ℕ → Bool) → ((n : ℕ) → all (suc n) ≡ (all n && test n)) → (n k : ℕ) → k < n → test k ≡ false → all n ≡ false
+one-fails all test step zero k h e = absurd (omega arith)
+one-fails all test step (suc n) k h e = step n ∙ by (decLt k n) (one-fails all test step n k)
+  where
+    by : Dec (k < n) → (k < n → test k ≡ false → all n ≡ false) → (all n && test n) ≡ false
+    by (yes l) before = rw (before l e)
+    by (no m) before = let last : n ≡ k = omega arith in ap (λ (b : Bool). all n && b) (ap test last ∙ e) ∙ nowhere (all n)

@@ -1,3 +1,4 @@
+pub mod Flipped
 pub mod Spreading
 pub mod Painting
 pub mod Packing

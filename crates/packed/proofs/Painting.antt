@@ -27,15 +27,13 @@ colours-few slots = by (eqb slots 8) (eqb slots 2)
     by false false = omega arith
 
 -- with no fault all that is read is there
-pub paint-fits : (file : List ℕ) (map slots first : ℕ) (raw out : List ℕ) → first ≤ 1 → Sound (paletteFaults (length file) map slots (length raw) (length out)) → (oneTwoEight slots ≡ true) × PaintFits file (map + first) slots raw out
-paint-fits file map slots first raw out small (next served (next groups (next within (next bytes none)))) = (
-  not-false (oneTwoEight slots) served,
-  record {
-    map = omega (arith, ltb-false (length file) (map + 6 * coloursOf slots) within, small);
-    whole = eqb-true (length out % 3) 0 (not-false (eqb (length out % 3) 0) groups);
-    bytes = ltb-false (length raw) ((length out / 3 + slots - 1) / slots) bytes;
-  },
-)
+pub paint-fits : (file : List ℕ) (map slots first : ℕ) (raw out : List ℕ) → first ≤ 1 → Sound (paletteFaults (length file) map slots (length raw) (length out)) → PaintFits file (map + first) slots raw out
+paint-fits file map slots first raw out small (next served (next groups (next within (next bytes none)))) = record {
+  served = not-false (oneTwoEight slots) served;
+  map = omega (arith, ltb-false (length file) (map + 6 * coloursOf slots) within, small);
+  whole = eqb-true (length out % 3) 0 (not-false (eqb (length out % 3) 0) groups);
+  bytes = ltb-false (length raw) ((length out / 3 + slots - 1) / slots) bytes;
+}
 
 pub eight-left : (slots : ℕ) → oneTwoEight slots ≡ true → (slots ≡ 1 → ⊥) → (slots ≡ 2 → ⊥) → slots ≡ 8
 eight-left slots e n m = by (one-two-eight slots .tells e)

@@ -12,18 +12,7 @@ use Rattle.answer.specs.Table.{filled}
 use Rattle.answer.proofs.Filling.{stores-filled}
 use Rattle.pixels.specs.Render.{flipped}
 use Rattle.packed.specs.Rows.{bilevelAt, Spread}
-
--- a byte turned over has each bit turned over
-turned-over : (k v : ℕ) → k < 8 → v < 256 → (255 - v) / 2 ^ k % 2 ≡ 1 - v / 2 ^ k % 2
-turned-over zero v h b = omega arith
-turned-over (suc zero) v h b = omega arith
-turned-over (suc (suc zero)) v h b = omega arith
-turned-over (suc (suc (suc zero))) v h b = omega arith
-turned-over (suc (suc (suc (suc zero)))) v h b = omega arith
-turned-over (suc (suc (suc (suc (suc zero))))) v h b = omega arith
-turned-over (suc (suc (suc (suc (suc (suc zero)))))) v h b = omega arith
-turned-over (suc (suc (suc (suc (suc (suc (suc zero))))))) v h b = omega arith
-turned-over (suc (suc (suc (suc (suc (suc (suc (suc k)))))))) v h b = absurd (omega arith)
+use Rattle.packed.proofs.Flipped.{flipped-bit}
 
 lit : (d : ℕ) → d < 2 → 255 * d ≡ pick (xor (eqb d 0) false) 0 255
 lit zero h = refl
@@ -37,7 +26,7 @@ unlit (suc (suc d)) h = absurd (omega arith)
 
 -- a bit's byte
 level : (white : Bool) (k v : ℕ) → k < 8 → v < 256 → 255 * (flipped white v / 2 ^ k % 2) ≡ pick (xor (eqb (v / 2 ^ k % 2) 0) white) 0 255
-level true k v h b = ap (λ (d : ℕ). 255 * d) (turned-over k v h b) ∙ unlit (v / 2 ^ k % 2) (mod-lt (v / 2 ^ k) (omega arith))
+level true k v h b = ap (λ (d : ℕ). 255 * d) (flipped-bit k v h b) ∙ unlit (v / 2 ^ k % 2) (mod-lt (v / 2 ^ k) (omega arith))
 level false k v h b = lit (v / 2 ^ k % 2) (mod-lt (v / 2 ^ k) (omega arith))
 
 -- byte i's bits, the first n of them, fill n columns more

@@ -2,7 +2,7 @@
 -- What stands in one byte is of pixels' definitions; here is which byte, and the order of the refusals. Assumes nothing.
 use Prim.Native.Nat.{ℕ, _+_, _-_, _*_, _/_, _%_, _^_, _≤_, _<_}
 use mathlib.Core.Path.{_≡_}
-use mathlib.Core.Bool.{Bool, not}
+use mathlib.Core.Bool.{Bool, true, not}
 use mathlib.Core.List.{List, [], _∷_}
 use lib.ListN.{length, getD}
 use lib.Dec.{eqb, ltb}
@@ -49,9 +49,6 @@ paletteFaults file map slots raw out =
     ∷ truncated (ltb file (map + 6 * coloursOf slots))
     ∷ truncated (ltb raw ((out / 3 + slots - 1) / slots))
     ∷ []
-
-abbrev pub PaletteChecked : ℕ → ℕ → ℕ → ℕ → ℕ → Done → Type 0
-PaletteChecked file map slots raw out answer = doneOutcome answer ≡ unless (paletteFaults file map slots raw out) tt
 
 abbrev pub PaletteRow : List ℕ → ℕ → ℕ → Bool → List ℕ → List ℕ → Done → List ℕ → Type 0
 PaletteRow file map slots le raw old answer new =
@@ -101,6 +98,7 @@ PaintedInto file first slots raw old new = new ≡ filled (length old) (paintedA
 
 -- what a palette row needs
 pub record PaintFits (file : List ℕ) (first slots : ℕ) (raw out : List ℕ) : Type 0 where
+  pub served : oneTwoEight slots ≡ true
   pub map : first + 6 * coloursOf slots ≤ length file + 1
   pub whole : length out % 3 ≡ 0
   pub bytes : (length out / 3 + slots - 1) / slots ≤ length raw

@@ -1,12 +1,17 @@
+// Rows whose bytes of the planes hold several samples or palette indices: rendered, and bilevel rows written.
 mod bits;
 mod paint;
 
 use answer::Done;
 use answer::Refusal;
+use answer::fault;
+use answer::first_of;
 ghost use mathlib.Core.Path.{_≡_};
-ghost use Prim.Native.Nat.{_/_, _≤_};
+ghost use Prim.Native.Nat.{_+_, _/_, _≤_};
+ghost use lib.Dec.{ltb};
 ghost use lib.ListN.{length};
-ghost use Rattle.packed.specs.Rows.{eighths as eighthsOf, SpreadInto, BilevelRow, PackedInto, PackRow, PaletteChecked, PaletteRow};
+ghost use Rattle.answer.specs.Outcome.{Step};
+ghost use Rattle.packed.specs.Rows.{eighths as eighthsOf, SpreadInto, BilevelRow, PackedInto, PackRow, paletteFaults, PaletteRow};
 
 // Bytes that hold n bits.
 fn eighths(n: usize) -> usize
@@ -71,27 +76,33 @@ pub fn pack_row(picture: &[u8], white: bool, out: &mut [u8]) -> Done
     Done::Done
 }
 
-// What a palette row cannot be painted from.
-fn check_palette(file: usize, map: usize, slots: usize, raw: usize, out: usize) -> Done
-    ensures { λ r. ⌜ PaletteChecked file map slots raw out r ⌝ }
+// Whether so many bytes from a place on end past the end of n, in whole numbers.
+fn past_end(n: usize, place: usize, bytes: usize) -> bool
+    ensures { λ r. ⌜ r ≡ ltb n (place + bytes) ⌝ }
 {
-    if !paint::one_two_eight(slots) {
-        return Done::Refused(Refusal::Unsupported);
+    if n < place {
+        return true;
     }
-    if out % 3 != 0 {
-        return Done::Refused(Refusal::Invalid);
+    n - place < bytes
+}
+
+// What a palette row cannot be painted from. The last test divides by the slots, so it waits for the first.
+fn check_palette(file: usize, map: usize, slots: usize, raw: usize, out: usize) -> Done
+    ensures { λ r. ⌜ Step (paletteFaults file map slots raw out) r ⌝ }
+{
+    let served = fault(
+        !((slots == 1) | (slots == 2) | (slots == 8)),
+        Refusal::Unsupported,
+    );
+    let whole = fault(out % 3 != 0, Refusal::Invalid);
+    let mapped = fault(
+        past_end(file, map, 6 * paint::colours(slots)),
+        Refusal::Truncated,
+    );
+    match first_of(served, first_of(whole, mapped)) {
+        Done::Refused(k) => Done::Refused(k),
+        Done::Done => fault(raw < (out / 3 + slots - 1) / slots, Refusal::Truncated),
     }
-    let map_bytes = 6 * paint::colours(slots);
-    if file < map_bytes {
-        return Done::Refused(Refusal::Truncated);
-    }
-    if file - map_bytes < map {
-        return Done::Refused(Refusal::Truncated);
-    }
-    if raw < (out / 3 + slots - 1) / slots {
-        return Done::Refused(Refusal::Truncated);
-    }
-    Done::Done
 }
 
 // A palette row: three bytes for each index, from the map of a file.

@@ -1,22 +1,10 @@
-// Palette rows: for each number of indices in a byte a loop of its own.
+// Palette rows: one loop for every number of indices in a byte.
 ghost use mathlib.Core.Path.{_≡_};
 ghost use mathlib.Core.Bool.{true};
 ghost use Prim.Native.Nat.{_+_, _*_, _/_, _≤_, _<_};
 ghost use lib.ListN.{length};
 ghost use Rattle.layout.specs.Layout.{oneTwoEight};
 ghost use Rattle.packed.specs.Rows.{coloursOf, IndexAt, Painted, PaintFits, PaintedInto};
-
-pub(crate) fn one_two_eight(n: usize) -> bool
-    ensures { λ r. ⌜ r ≡ oneTwoEight n ⌝ }
-{
-    if n == 1 {
-        return true;
-    }
-    if n == 2 {
-        return true;
-    }
-    n == 8
-}
 
 // Colours of the palette.
 pub(crate) fn colours(slots: usize) -> usize
@@ -50,35 +38,11 @@ fn index1(raw: &[u8], x: usize) -> usize
     raw[x] as usize
 }
 
-fn paint1(file: &[u8], first: usize, raw: &[u8], out: &mut [u8])
-    requires { ⌜ PaintFits (now file) first 1 (now raw) (now out) ⌝ }
-    ensures { λ r. ⌜ PaintedInto (now (file .entry)) first 1 (now (raw .entry)) (now (out .entry)) (now (out .exit)) ⌝ }
-{
-    let columns = out.len() / 3;
-    let mut x: usize = 0;
-    while x < columns {
-        paint(file, first + 2 * index1(raw, x), 512, out, 3 * x);
-        x += 1;
-    }
-}
-
 fn index2(raw: &[u8], x: usize) -> usize
     requires { ⌜ x / 2 < length (now raw) ⌝ }
     ensures { λ r. ⌜ IndexAt 2 (now (raw .entry)) x r ⌝ }
 {
     ((raw[x / 2] >> ((1 - x % 2) * 4)) % 16) as usize
-}
-
-fn paint2(file: &[u8], first: usize, raw: &[u8], out: &mut [u8])
-    requires { ⌜ PaintFits (now file) first 2 (now raw) (now out) ⌝ }
-    ensures { λ r. ⌜ PaintedInto (now (file .entry)) first 2 (now (raw .entry)) (now (out .entry)) (now (out .exit)) ⌝ }
-{
-    let columns = out.len() / 3;
-    let mut x: usize = 0;
-    while x < columns {
-        paint(file, first + 2 * index2(raw, x), 32, out, 3 * x);
-        x += 1;
-    }
 }
 
 fn index8(raw: &[u8], x: usize) -> usize
@@ -88,27 +52,42 @@ fn index8(raw: &[u8], x: usize) -> usize
     ((raw[x / 8] >> (7 - x % 8)) % 2) as usize
 }
 
-fn paint8(file: &[u8], first: usize, raw: &[u8], out: &mut [u8])
-    requires { ⌜ PaintFits (now file) first 8 (now raw) (now out) ⌝ }
-    ensures { λ r. ⌜ PaintedInto (now (file .entry)) first 8 (now (raw .entry)) (now (out .entry)) (now (out .exit)) ⌝ }
+// The index of a column: a byte, a nibble or a bit.
+fn index(raw: &[u8], x: usize, slots: usize) -> usize
+    requires { ⌜ (oneTwoEight slots ≡ true) × (x / slots < length (now raw)) ⌝ }
+    ensures { λ r. ⌜ IndexAt slots (now (raw .entry)) x r ⌝ }
 {
+    if slots == 1 {
+        index1(raw, x)
+    } else if slots == 2 {
+        index2(raw, x)
+    } else {
+        index8(raw, x)
+    }
+}
+
+fn paint_of(file: &[u8], first: usize, slots: usize, raw: &[u8], out: &mut [u8])
+    requires { ⌜ PaintFits (now file) first slots (now raw) (now out) ⌝ }
+    ensures { λ r. ⌜ PaintedInto (now (file .entry)) first slots (now (raw .entry)) (now (out .entry)) (now (out .exit)) ⌝ }
+{
+    let step = 2 * colours(slots);
     let columns = out.len() / 3;
     let mut x: usize = 0;
     while x < columns {
-        paint(file, first + 2 * index8(raw, x), 4, out, 3 * x);
+        paint(file, first + 2 * index(raw, x, slots), step, out, 3 * x);
         x += 1;
     }
 }
 
+// A row. Each arm knows its number of slots, so the compiler makes a loop of each.
 pub(crate) fn paint_row(file: &[u8], first: usize, slots: usize, raw: &[u8], out: &mut [u8])
-    requires { ⌜ (oneTwoEight slots ≡ true) × PaintFits (now file) first slots (now raw) (now out) ⌝ }
+    requires { ⌜ PaintFits (now file) first slots (now raw) (now out) ⌝ }
     ensures { λ r. ⌜ PaintedInto (now (file .entry)) first slots (now (raw .entry)) (now (out .entry)) (now (out .exit)) ⌝ }
 {
-    if slots == 1 {
-        paint1(file, first, raw, out)
-    } else if slots == 2 {
-        paint2(file, first, raw, out)
-    } else {
-        paint8(file, first, raw, out)
+    match slots {
+        1 => paint_of(file, first, slots, raw, out),
+        2 => paint_of(file, first, slots, raw, out),
+        8 => paint_of(file, first, slots, raw, out),
+        _ => paint_of(file, first, slots, raw, out),
     }
 }

@@ -17,7 +17,8 @@ use Rattle.layout.specs.declared.RasterLayout.{RasterLayout}
 use Rattle.layout.proofs.Whole.{record-accepted}
 use Rattle.pixels.specs.Render.{rowBytes, flipped, straightColour, source, plainByte}
 use Rattle.pixels.specs.Finish.{Inverted, straightAt, straightFaults, Straightened}
-use Rattle.rendering.specs.Rows.{PlainRow, WholeRow, finishedAt, Finished, Gathered, PlainRendered}
+use Rattle.laws.proofs.Picks.{pick-same}
+use Rattle.rendering.specs.Rows.{PlainRowAsked, WholeRow, finishedAt, Finished, Gathered, PlainRendered}
 
 module _ (l : RasterLayout) (old : List ℕ) where
   straight-same : (j : ℕ) → eqb (l .fields .alpha) 0 ≡ false → straightAt old (l .fields .ch) (eqb (l .fields .alpha) 1) (l .fields .white) j ≡ finishedAt l old j
@@ -36,35 +37,34 @@ module _ (l : RasterLayout) (old : List ℕ) where
       ∙ table-same (length old) _ _ (λ j h. straight-same j e)
 
   pub inverted-finished : eqb (l .fields .alpha) 0 ≡ true → l .fields .white ≡ true → (new : List ℕ) → Inverted old new → Finished l old new
-  inverted-finished e white new p = p ∙ table-same (length old) _ _ (λ j h. sym (turned-over j))
+  inverted-finished e white new p = p ∙ table-same (length old) _ _ (λ j h. sym (inverted-at j))
     where
-      turned-over : (j : ℕ) → finishedAt l old j ≡ 255 - getD old j 0
-      turned-over j = rw (e, white)
+      inverted-at : (j : ℕ) → finishedAt l old j ≡ 255 - getD old j 0
+      inverted-at j = rw (e, white)
 
   -- neither white nor colours multiplied by alpha
   pub same-finished : eqb (l .fields .alpha) 1 ≡ false → l .fields .white ≡ false → Finished l old old
   same-finished e white = sym (table-same (length old) _ _ (λ j h. as-is j) ∙ table-self old)
     where
       as-is : (j : ℕ) → finishedAt l old j ≡ getD old j 0
-      as-is j = rw (e, white) (by (not (eqb (l .fields .alpha) 0) && not (eqb (j % l .fields .ch) (l .fields .ch - 1))))
-        where
-          by : (b : Bool) → pick b (getD old j 0) (getD old j 0) ≡ getD old j 0
-          by true = refl
-          by false = refl
+      as-is j = rw (e, white) (pick-same (not (eqb (l .fields .alpha) 0) && not (eqb (j % l .fields .ch) (l .fields .ch - 1))) (getD old j 0))
 
-module _ {l : RasterLayout} {raw : List ℕ} {y : ℕ} {out : List ℕ} (row : PlainRow l raw y out) where
+module _ {l : RasterLayout} {raw : List ℕ} {y : ℕ} {out : List ℕ} (row : PlainRowAsked l raw y out) where
   -- beside alpha a channel is one byte
   one-byte : eqb (l .fields .alpha) 0 ≡ false → rowBytes l ≡ l .fields .w * l .fields .ch
   one-byte e =
       let one : l .fields .bytes ≡ 1 = record-accepted l (row .sound) .covered (eqb-false (l .fields .alpha) 0 e) .0 .0 in
       ap (λ (n : ℕ). l .fields .w * (l .fields .ch * n)) one ∙ ap (λ (n : ℕ). l .fields .w * n) (mul-one (l .fields .ch))
 
-  pub whole-row : (mid : List ℕ) → length mid ≡ length out → WholeRow l mid
+  whole-row : (mid : List ℕ) → length mid ≡ length out → WholeRow l mid
   whole-row mid same =
       record {
         some = record-accepted l (row .sound) .some;
         pixels = λ e. ap (λ (n : ℕ). n % l .fields .ch) (same ∙ row .room ∙ one-byte e) ∙ mul-mod-left (l .fields .w) (l .fields .ch);
       }
+
+  pub whole-gathered : (mid : List ℕ) → Gathered l raw y out mid → WholeRow l mid
+  whole-gathered mid g = whole-row mid (ap length g ∙ length-table (length out) _)
 
   pub plain-rendered : (mid new : List ℕ) → Gathered l raw y out mid → Finished l mid new → PlainRendered l raw y out new
   unfolding plainByte

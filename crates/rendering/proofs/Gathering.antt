@@ -11,10 +11,9 @@ use lib.Dec.{eqb}
 use Rattle.answer.specs.Outcome.{pick}
 use Rattle.answer.specs.Table.{filled, stores}
 use Rattle.answer.proofs.Filling.{length-stores, stores-on, stores-filled, length-filled, filled-all}
-use Rattle.laws.proofs.Groups.{group-room}
-use Rattle.layout.specs.Layout.{highFirst}
+use Rattle.laws.proofs.Groups.{group-room, group-of, item-of}
+use Rattle.layout.specs.Layout.{byteLimit, highFirst}
 use Rattle.pixels.proofs.HighFirst.{high-few, some-bytes, high-first-one, high-first-two, high-first-in}
-use Rattle.pixels.proofs.Places.{group-of, item-of}
 use Rattle.pixels.specs.Render.{highByte}
 use Rattle.rendering.specs.Rows.{planePlace, planesAt, PixelFits, PixelGathered, PlanesFit, PlanesInto}
 
@@ -23,19 +22,22 @@ high-first-pair : (le : Bool) (c p : ℕ) → highFirst 2 le (c * 2 + p) ≡ c *
 high-first-pair le c p = high-first-in 2 (inr refl) le c p
 
 -- the loop over the channels of a pixel
-pub record Channelwise (raw : List ℕ) (planeLength place channels bytes : ℕ) (le : Bool) (at : ℕ) (old : List ℕ) (c from : ℕ) (out : List ℕ) : Type 0 where
+pub record GatheredChannels (raw : List ℕ) (planeLength place channels bytes : ℕ) (le : Bool) (at : ℕ) (old : List ℕ) (c from : ℕ) (out : List ℕ) : Type 0 where
   pub inside : c ≤ channels
   pub from-is : from ≡ place + c * planeLength
   pub same : length out ≡ length old
   pub so-far : out ≡ stores old at (c * bytes) (λ k. getD raw (planePlace planeLength place bytes le k) 0)
 
-pub channels-none : (raw : List ℕ) (planeLength place channels bytes : ℕ) (le : Bool) (at : ℕ) (old : List ℕ) → Channelwise raw planeLength place channels bytes le at old 0 place old
-channels-none raw planeLength place channels bytes le at old =
+pub gathered-no-channel : (raw : List ℕ) (planeLength place channels bytes : ℕ) (le : Bool) (at : ℕ) (old : List ℕ) → GatheredChannels raw planeLength place channels bytes le at old 0 place old
+gathered-no-channel raw planeLength place channels bytes le at old =
     record { inside = omega arith; from-is = omega (arith, zero-mul planeLength); same = refl; so-far = rw (zero-mul bytes) }
 
-module _ {raw : List ℕ} {planeLength place channels bytes : ℕ} {le : Bool} {at : ℕ} {old : List ℕ} {c from : ℕ} {out : List ℕ} (fits : PixelFits raw planeLength place channels bytes at old) (is : Channelwise raw planeLength place channels bytes le at old c from out) where
-  -- the channel's bytes lie in the planes, and have room
-  pub channel-room : c < channels → ((from + bytes ≤ length raw) × (from + planeLength ≤ 2147483648)) × (at + (c * bytes + bytes) ≤ length out)
+-- a channel's bytes lie in the planes, and have room
+abbrev pub ChannelRoom : List ℕ → ℕ → ℕ → ℕ → ℕ → ℕ → List ℕ → Type 0
+ChannelRoom raw planeLength bytes at c from out = ((from + bytes ≤ length raw) × (from + planeLength ≤ 2 * byteLimit)) × (at + (c * bytes + bytes) ≤ length out)
+
+module _ {raw : List ℕ} {planeLength place channels bytes : ℕ} {le : Bool} {at : ℕ} {old : List ℕ} {c from : ℕ} {out : List ℕ} (fits : PixelFits raw planeLength place channels bytes at old) (is : GatheredChannels raw planeLength place channels bytes le at old c from out) where
+  pub channel-room : c < channels → ChannelRoom raw planeLength bytes at c from out
   channel-room more =
       let plane : (c + 1) * planeLength ≤ channels * planeLength = mul-le-mul-right planeLength (omega arith) in
       let room : (c + 1) * bytes ≤ channels * bytes = mul-le-mul-right bytes (omega arith) in
@@ -45,7 +47,7 @@ module _ {raw : List ℕ} {planeLength place channels bytes : ℕ} {le : Bool} {
       let one-byte = one-mul bytes in
       ((omega (arith, is .from-is, fits .inside, fits .planes), omega (arith, is .from-is, fits .inside, fits .limited)), omega (arith, is .same, fits .room))
 
-  pub channel-next : c < channels → (h : ℕ → ℕ) → ((p : ℕ) → p < bytes → h p ≡ getD raw (planePlace planeLength place bytes le (c * bytes + p)) 0) → (new : List ℕ) → new ≡ stores out (at + c * bytes) bytes h → Channelwise raw planeLength place channels bytes le at old (c + 1) (from + planeLength) new
+  pub channel-next : c < channels → (h : ℕ → ℕ) → ((p : ℕ) → p < bytes → h p ≡ getD raw (planePlace planeLength place bytes le (c * bytes + p)) 0) → (new : List ℕ) → new ≡ stores out (at + c * bytes) bytes h → GatheredChannels raw planeLength place channels bytes le at old (c + 1) (from + planeLength) new
   channel-next more h agree new e =
       let g : ℕ → ℕ = λ k. getD raw (planePlace planeLength place bytes le k) 0 in
       let next : c * bytes + bytes ≡ (c + 1) * bytes = omega (arith, add-mul c 1 bytes, one-mul bytes) in
@@ -62,13 +64,13 @@ module _ {raw : List ℕ} {planeLength place channels bytes : ℕ} {le : Bool} {
 
 -- the stores of a one-byte channel, and of a two-byte one
 module _ {raw : List ℕ} {planeLength place channels : ℕ} {le : Bool} {at : ℕ} {old : List ℕ} {c from : ℕ} {out : List ℕ} where
-  pub channel-one : PixelFits raw planeLength place channels 1 at old → Channelwise raw planeLength place channels 1 le at old c from out → c < channels → Channelwise raw planeLength place channels 1 le at old (c + 1) (from + planeLength) (set out (at + c) (getD raw from 0))
+  pub channel-one : PixelFits raw planeLength place channels 1 at old → GatheredChannels raw planeLength place channels 1 le at old c from out → c < channels → GatheredChannels raw planeLength place channels 1 le at old (c + 1) (from + planeLength) (set out (at + c) (getD raw from 0))
   channel-one fits is more =
       let where-from : (p : ℕ) → p < 1 → from ≡ planePlace planeLength place 1 le (c * 1 + p) =
       λ p h. let same : c * 1 + p ≡ c = omega arith in rw (same, high-first-one le c, div-one, mod-one) (omega (arith, is .from-is)) in
       channel-next fits is more (λ p. getD raw from 0) (λ p h. ap (λ (i : ℕ). getD raw i 0) (where-from p h)) _ (rw (mul-one, add-zero))
 
-  pub channel-two : PixelFits raw planeLength place channels 2 at old → Channelwise raw planeLength place channels 2 le at old c from out → c < channels → (to high : ℕ) → to ≡ at + c * 2 → high ≡ highByte le → Channelwise raw planeLength place channels 2 le at old (c + 1) (from + planeLength) (set (set out to (getD raw (from + high) 0)) (to + 1) (getD raw (from + (1 - high)) 0))
+  pub channel-two : PixelFits raw planeLength place channels 2 at old → GatheredChannels raw planeLength place channels 2 le at old c from out → c < channels → (to high : ℕ) → to ≡ at + c * 2 → high ≡ highByte le → GatheredChannels raw planeLength place channels 2 le at old (c + 1) (from + planeLength) (set (set out to (getD raw (from + high) 0)) (to + 1) (getD raw (from + (1 - high)) 0))
   channel-two fits is more to high there which =
       channel-next fits is more (λ p. getD raw (from + pick (eqb p 0) high (1 - high)) 0) (λ p h. ap (λ (i : ℕ). getD raw i 0) (agree p h)) _ (rw (there, add-zero))
     where
@@ -81,18 +83,18 @@ module _ {raw : List ℕ} {planeLength place channels : ℕ} {le : Bool} {at : �
       agree (suc (suc p)) h = absurd (omega arith)
 
 -- the loop over the pixels of a row
-pub record Pixelwise (raw : List ℕ) (planeLength from channels bytes : ℕ) (le : Bool) (old : List ℕ) (at place : ℕ) (out : List ℕ) : Type 0 where
+pub record GatheredPixels (raw : List ℕ) (planeLength from channels bytes : ℕ) (le : Bool) (old : List ℕ) (at place : ℕ) (out : List ℕ) : Type 0 where
   pub inside : at ≤ length old
   pub pixels : at % (channels * bytes) ≡ 0
   pub place-is : place ≡ from + at / (channels * bytes) * bytes
   pub same : length out ≡ length old
   pub so-far : out ≡ filled at (planesAt raw planeLength from channels bytes le) old
 
-pub pixels-none : (raw : List ℕ) (planeLength from channels bytes : ℕ) (le : Bool) (old : List ℕ) → Pixelwise raw planeLength from channels bytes le old 0 from old
-pixels-none raw planeLength from channels bytes le old =
+pub gathered-no-pixel : (raw : List ℕ) (planeLength from channels bytes : ℕ) (le : Bool) (old : List ℕ) → GatheredPixels raw planeLength from channels bytes le old 0 from old
+gathered-no-pixel raw planeLength from channels bytes le old =
     record { inside = omega arith; pixels = zero-mod (channels * bytes); place-is = rw (zero-div, zero-mul) (omega arith); same = refl; so-far = refl }
 
-module _ {raw : List ℕ} {planeLength from channels bytes : ℕ} {le : Bool} {old : List ℕ} {at place : ℕ} {out : List ℕ} (fits : PlanesFit raw planeLength from channels bytes old) (is : Pixelwise raw planeLength from channels bytes le old at place out) where
+module _ {raw : List ℕ} {planeLength from channels bytes : ℕ} {le : Bool} {old : List ℕ} {at place : ℕ} {out : List ℕ} (fits : PlanesFit raw planeLength from channels bytes old) (is : GatheredPixels raw planeLength from channels bytes le old at place out) where
   pub stride-some : 0 < channels * bytes
   stride-some = mul-pos (fits .some) (some-bytes (fits .width))
 
@@ -113,7 +115,7 @@ module _ {raw : List ℕ} {planeLength from channels bytes : ℕ} {le : Bool} {o
     pub pixel-fits : PixelFits raw planeLength place channels bytes at out
     pixel-fits = record { inside = pixel-inside; planes = fits .planes; limited = fits .limited; room = omega (arith, pixel-room, is .same) }
 
-    pub pixel-next : (new : List ℕ) → PixelGathered raw planeLength place channels bytes le at out new → Pixelwise raw planeLength from channels bytes le old (at + channels * bytes) (place + bytes) new
+    pub pixel-next : (new : List ℕ) → PixelGathered raw planeLength place channels bytes le at out new → GatheredPixels raw planeLength from channels bytes le old (at + channels * bytes) (place + bytes) new
     pixel-next new e =
         let f = planesAt raw planeLength from channels bytes le in
         let whole : at / (channels * bytes) * (channels * bytes) ≡ at = omega (arith, div-add-mod' at (channels * bytes), is .pixels) in
@@ -131,8 +133,8 @@ module _ {raw : List ℕ} {planeLength from channels bytes : ℕ} {le : Bool} {o
           so-far = now;
         }
 
-  pub pixels-ended : length old ≤ at → PlanesInto raw planeLength from channels bytes le old out
-  pixels-ended l =
+  pub gathered-all : length old ≤ at → PlanesInto raw planeLength from channels bytes le old out
+  gathered-all l =
       let all : at ≡ length old = omega (arith, is .inside) in
       let f = planesAt raw planeLength from channels bytes le in
       is .so-far ∙ ap (λ (n : ℕ). filled n f old) all ∙ filled-all (length old) f old (omega arith)

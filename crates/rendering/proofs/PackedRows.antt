@@ -20,12 +20,13 @@ use Rattle.layout.proofs.Accepted.{one-two-eight, up-to-eight, bilevel}
 use Rattle.layout.proofs.Whole.{record-accepted, record-agreed}
 use Rattle.layout.proofs.Placed.{scratch-is, packed-one, row-within, scratch-limited}
 use Rattle.pixels.specs.Render.{rowBytes, source, slotShift, mapByte, paletteIndex, bilevelByte, converted}
-use Rattle.pixels.proofs.Places.{group-of, item-of}
-use Rattle.pixels.proofs.Undo.{picked, bilevel-converted}
+use Rattle.laws.proofs.Groups.{group-of, item-of}
+use Rattle.pixels.proofs.Undo.{bilevel-converted}
+use Rattle.laws.proofs.Picks.{picked}
 use Rattle.packed.specs.Rows.{bilevelAt, bilevelFaults, BilevelRow, coloursOf, paletteAt, paletteFaults, PaletteRow}
-use Rattle.rendering.specs.Rows.{RowOf, RowRendered}
+use Rattle.rendering.specs.Rows.{RowAsked, RowRendered}
 
-module _ {l : RasterLayout} {file raw : List ℕ} {y : ℕ} {out : List ℕ} (row : RowOf l file raw y out) (is : packed l ≡ true) where
+module _ {l : RasterLayout} {file raw : List ℕ} {y : ℕ} {out : List ℕ} (row : RowAsked l file raw y out) (is : packed l ≡ true) where
   pub packed-row-end : y * l .«encoded_width» + l .«encoded_width» ≤ l .«scratch_len»
   packed-row-end =
       let all : (y + 1) * l .«encoded_width» ≤ l .fields .h * l .«encoded_width» = mul-le-mul-right (l .«encoded_width») (omega (arith, row .row)) in

@@ -1,14 +1,13 @@
 -- A row of a picture whose bytes are bytes of the planes: where it begins in the planes, and that what is gathered there is the row. Assumes nothing.
-use Prim.Native.Nat.{ℕ, _+_, _-_, _*_, _/_, _%_, _≤_, _<_}
-use mathlib.Core.Path.{_≡_, refl, sym, ap, _∙_}
+use Prim.Native.Nat.{ℕ, _+_, _*_, _/_, _%_, _≤_, _<_}
+use mathlib.Core.Path.{_≡_, sym, ap, _∙_}
 use mathlib.Core.Bool.{Bool, true, false, not}
 use mathlib.Core.List.{List}
 use native.Mathlib.Nat.{add-mul, one-mul, mul-one, mul-comm, mul-assoc, mul-le-mul-left, mul-le-mul-right, mul-mod-left, mul-div-cancel, div-add-mod', div-lt-iff-lt-mul, mod-lt}
 use native.Mathlib.Omega.{arith}
 use borrow.Author.Tests.{eq-eqb, le-ltb}
-use native.Mathlib.Decide.{decLt}
-use lib.ListN.{length, getD, drop, length-take, List·getD-eq-default}
-use Rattle.answer.specs.Outcome.{Sound, pick, next, none, xor}
+use lib.ListN.{length, getD}
+use Rattle.answer.specs.Outcome.{Sound, pick, next, none}
 use Rattle.answer.specs.Table.{table}
 use Rattle.answer.specs.declared.Done.{Done}
 use Rattle.answer.proofs.Promised.{finished}
@@ -20,25 +19,20 @@ use Rattle.samples.specs.Promises.{reorderFaults, Reordered}
 use Rattle.layout.specs.declared.RasterLayout.{RasterLayout}
 use Rattle.layout.specs.Layout.{byteLimit, planeChannels, planes, planeLength, scratchLength, highFirst, sourceIndex}
 use Rattle.layout.proofs.Whole.{record-accepted, record-agreed}
-use Rattle.layout.proofs.Placed.{grouped, stride-some, plain-one, row-is, high-first-within, scratch-limited}
+use Rattle.layout.proofs.Placed.{stride-some, plain-one, row-is, high-first-within, scratch-limited}
+use Rattle.laws.proofs.Groups.{grouped, whole-last}
 use Rattle.pixels.proofs.HighFirst.{narrow-served, one-or-two, high-first-in, stored-high-first}
 use Rattle.pixels.proofs.Places.{stride, plane-is, together-is, apart-source, together-source}
 use Rattle.pixels.specs.Render.{rowBytes, planeRow, OneOrTwo}
-use Rattle.rendering.specs.Rows.{PlainRow, Gathered, planePlace, PlanesFit, PlanesInto}
-
--- bytes of a part are bytes
-pub part-bytes : (a e : ℕ) (l : List ℕ) → Bytes l → Bytes (part a e l)
-part-bytes a e l b i = by (decLt i (e - a))
-  where
-    by : Dec (i < e - a) → getD (part a e l) i 0 < 256
-    by (yes h) = rw (part-at a e l i h) (b (a + i))
-    by (no h) = rw (List·getD-eq-default (part a e l) 0 {n = i} (omega (arith, length-take (e - a) (drop a l)))) (omega arith)
+use Rattle.words.proofs.Words.{part-bytes}
+use Rattle.laws.proofs.Picks.{xor-false}
+use Rattle.rendering.specs.Rows.{PlainRowAsked, Gathered, planePlace, PlanesFit, PlanesInto}
 
 -- words do not cross pixels
 high-first-group : {bytes : ℕ} → OneOrTwo bytes → (le : Bool) (ch a c : ℕ) → highFirst bytes le (a * (ch * bytes) + c) ≡ a * (ch * bytes) + highFirst bytes le c
 high-first-group {bytes} w le ch a c = let words : a * ch * bytes ≡ a * (ch * bytes) = mul-assoc a ch bytes in rw (← words) (high-first-in bytes w le (a * ch) c)
 
-module _ {l : RasterLayout} {raw : List ℕ} {y : ℕ} {out : List ℕ} (row : PlainRow l raw y out) where
+module _ {l : RasterLayout} {raw : List ℕ} {y : ℕ} {out : List ℕ} (row : PlainRowAsked l raw y out) where
   pub narrow : OneOrTwo (l .fields .bytes)
   narrow = one-or-two l (row .sound) (row .bytes)
 
@@ -153,7 +147,7 @@ module _ {l : RasterLayout} {raw : List ℕ} {y : ℕ} {out : List ℕ} (row : P
     unfolding mine
     together-gathered answer new b p =
         let width : served (l .fields .bytes) ≡ true = narrow-served narrow in
-        let whole : length mine % l .fields .bytes ≡ 0 = rw (long, row .room) (words-whole narrow) in
+        let whole : length mine % l .fields .bytes ≡ 0 = rw (long, row .room) (whole-last (l .fields .w) (l .fields .ch) (l .fields .bytes)) in
         let sound : Sound (reorderFaults mine (l .fields .bytes) out) = next (ap not width) (next (ap not (eq-eqb _ _ whole)) (next (le-ltb (length out) (length mine) (omega (arith, long))) none)) in
         finished (reorderFaults mine (l .fields .bytes) out) tt (length mine) (storedAt (l .fields .bytes) false (wordOf (l .fields .bytes) (l .fields .le) mine)) out new sound p
         ∙ filled-all (length mine) _ out (omega (arith, long))
@@ -163,10 +157,3 @@ module _ {l : RasterLayout} {raw : List ℕ} {y : ℕ} {out : List ℕ} (row : P
         ∙ ap (λ (d : Bool). getD mine (highFirst (l .fields .bytes) d j) 0) (xor-false (l .fields .le))
         ∙ part-at (y * planeRow l) (y * planeRow l + length out) raw (highFirst (l .fields .bytes) (l .fields .le) j) (omega (arith, high-first-inside j h))
         ∙ ap (λ (i : ℕ). getD raw i 0) (sym (at j)))
-      where
-        xor-false : (b : Bool) → xor b false ≡ b
-        xor-false true = refl
-        xor-false false = refl
-
-        words-whole : OneOrTwo (l .fields .bytes) → l .fields .w * (l .fields .ch * l .fields .bytes) % l .fields .bytes ≡ 0
-        words-whole w = ap (λ (n : ℕ). n % l .fields .bytes) (sym (mul-assoc (l .fields .w) (l .fields .ch) (l .fields .bytes))) ∙ mul-mod-left (l .fields .w * l .fields .ch) (l .fields .bytes)

@@ -8,11 +8,11 @@ use lib.Dec.{eqb}
 use Rattle.answer.specs.Outcome.{Sound, pick}
 use Rattle.answer.specs.Table.{table, filled, stores}
 use Rattle.layout.specs.declared.RasterLayout.{RasterLayout}
-use Rattle.layout.specs.Layout.{recordFaults, packed, highFirst}
+use Rattle.layout.specs.Layout.{byteLimit, recordFaults, packed, highFirst}
 use Rattle.pixels.specs.Render.{rowBytes, flipped, OneOrTwo, straightColour, source, plainByte, converted}
 
 -- past every refusal
-pub record Served (l : RasterLayout) (file raw out : List ℕ) : Type 0 where
+pub record RenderServed (l : RasterLayout) (file raw out : List ℕ) : Type 0 where
   pub sound : Sound (recordFaults l)
   pub bytes : eqb (l .fields .bytes) 8 ≡ false
   pub map : l .fields .palette ≡ true → l .fields .map + 6 * l .colors ≤ length file
@@ -20,7 +20,7 @@ pub record Served (l : RasterLayout) (file raw out : List ℕ) : Type 0 where
   pub room : l .«output_len» ≤ length out
 
 -- row y, and room for it alone
-pub record RowOf (l : RasterLayout) (file raw : List ℕ) (y : ℕ) (out : List ℕ) : Type 0 where
+pub record RowAsked (l : RasterLayout) (file raw : List ℕ) (y : ℕ) (out : List ℕ) : Type 0 where
   pub sound : Sound (recordFaults l)
   pub bytes : eqb (l .fields .bytes) 8 ≡ false
   pub map : l .fields .palette ≡ true → l .fields .map + 6 * l .colors ≤ length file
@@ -36,7 +36,7 @@ abbrev pub Colours : RasterLayout → Type 0
 Colours l = l .colors ≤ 256
 
 -- and a byte of the picture is a byte of the planes
-pub record PlainRow (l : RasterLayout) (raw : List ℕ) (y : ℕ) (out : List ℕ) : Type 0 where
+pub record PlainRowAsked (l : RasterLayout) (raw : List ℕ) (y : ℕ) (out : List ℕ) : Type 0 where
   pub sound : Sound (recordFaults l)
   pub bytes : eqb (l .fields .bytes) 8 ≡ false
   pub planes : l .«scratch_len» ≤ length raw
@@ -81,12 +81,12 @@ pub record PlanesFit (raw : List ℕ) (planeLength from channels bytes : ℕ) (o
   pub pixels : length out % (channels * bytes) ≡ 0
   pub inside : from + length out / (channels * bytes) * bytes ≤ planeLength
   pub planes : channels * planeLength ≤ length raw
-  pub limited : channels * planeLength ≤ 1073741824
+  pub limited : channels * planeLength ≤ byteLimit
 
 pub record PixelFits (raw : List ℕ) (planeLength place channels bytes at : ℕ) (out : List ℕ) : Type 0 where
   pub inside : place + bytes ≤ planeLength
   pub planes : channels * planeLength ≤ length raw
-  pub limited : channels * planeLength ≤ 1073741824
+  pub limited : channels * planeLength ≤ byteLimit
   pub room : at + channels * bytes ≤ length out
 
 abbrev pub PixelGathered : List ℕ → ℕ → ℕ → ℕ → ℕ → Bool → ℕ → List ℕ → List ℕ → Type 0

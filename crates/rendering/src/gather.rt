@@ -1,7 +1,7 @@
 // The bytes of a row in the picture's order, where each is a byte of the planes.
 use layout::RasterLayout;
 ghost use Rattle.pixels.specs.Render.{OneOrTwo};
-ghost use Rattle.rendering.specs.Rows.{PlainRow, Gathered, PixelFits, PixelGathered, PlanesFit, PlanesInto};
+ghost use Rattle.rendering.specs.Rows.{PlainRowAsked, Gathered, PixelFits, PixelGathered, PlanesFit, PlanesInto};
 
 // A pixel of one-byte channels, each from its plane.
 fn pixel1(
@@ -73,7 +73,7 @@ fn pixel(
     }
 }
 
-// The same, with the numbers of channels that pictures have said outright, so that the compiler writes their loops out.
+// The same. Each arm knows its number of channels, so the compiler writes their loops out.
 fn known_pixel(
     raw: &[u8],
     plane_len: usize,
@@ -88,9 +88,9 @@ fn known_pixel(
     ensures { λ r. ⌜ PixelGathered (now (raw .entry)) «plane_len» place channels bytes le at (now (out .entry)) (now (out .exit)) ⌝ }
 {
     match channels {
-        2 => pixel(raw, plane_len, place, 2, bytes, le, at, out),
-        3 => pixel(raw, plane_len, place, 3, bytes, le, at, out),
-        4 => pixel(raw, plane_len, place, 4, bytes, le, at, out),
+        2 => pixel(raw, plane_len, place, channels, bytes, le, at, out),
+        3 => pixel(raw, plane_len, place, channels, bytes, le, at, out),
+        4 => pixel(raw, plane_len, place, channels, bytes, le, at, out),
         _ => pixel(raw, plane_len, place, channels, bytes, le, at, out),
     }
 }
@@ -117,27 +117,21 @@ fn planes(
     }
 }
 
-// The same, with the width and the byte order said outright: a loop for each.
-fn known_planes(l: RasterLayout, raw: &[u8], from: usize, out: &mut [u8])
-    requires { ⌜ PlanesFit (now raw) (l .«plane_len») from (l .fields .ch) (l .fields .bytes) (now out) ⌝ }
-    ensures { λ r. ⌜ PlanesInto (now (raw .entry)) (l .«plane_len») from (l .fields .ch) (l .fields .bytes) (l .fields .le) (now (out .entry)) (now (out .exit)) ⌝ }
-{
-    if l.fields.bytes != 2 {
-        planes(raw, l.plane_len, from, l.fields.ch, 1, l.fields.le, out);
-    } else if l.fields.le {
-        planes(raw, l.plane_len, from, l.fields.ch, 2, true, out);
-    } else {
-        planes(raw, l.plane_len, from, l.fields.ch, 2, false, out);
-    }
-}
-
 pub(crate) fn gather(l: RasterLayout, raw: &[u8], y: usize, out: &mut [u8])
-    requires { ⌜ PlainRow l (now raw) y (now out) ⌝ }
+    requires { ⌜ PlainRowAsked l (now raw) y (now out) ⌝ }
     ensures { λ r. ⌜ Gathered l (now (raw .entry)) y (now (out .entry)) (now (out .exit)) ⌝ }
 {
     let from = y * (l.encoded_width * l.plane_channels);
     if l.fields.separate {
-        known_planes(l, raw, from, out);
+        planes(
+            raw,
+            l.plane_len,
+            from,
+            l.fields.ch,
+            l.fields.bytes,
+            l.fields.le,
+            out,
+        );
     } else {
         let end = from + out.len();
         samples::reorder(&raw[from..end], l.fields.bytes, l.fields.le, false, out);

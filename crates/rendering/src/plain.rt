@@ -1,9 +1,9 @@
 // A row whose bytes are bytes of the planes: gathered, then finished in place.
 use crate::gather::gather;
 use layout::RasterLayout;
-ghost use Rattle.rendering.specs.Rows.{PlainRow, WholeRow, Finished, PlainRendered};
+ghost use Rattle.rendering.specs.Rows.{PlainRowAsked, WholeRow, Finished, PlainRendered};
 
-// White turned over, colours made straight beside alpha.
+// White inverted, colours made straight beside alpha.
 fn finish(l: RasterLayout, out: &mut [u8])
     requires { ⌜ WholeRow l (now out) ⌝ }
     ensures { λ r. ⌜ Finished l (now (out .entry)) (now (out .exit)) ⌝ }
@@ -20,7 +20,7 @@ fn finish(l: RasterLayout, out: &mut [u8])
 }
 
 pub(crate) fn plain_row(l: RasterLayout, raw: &[u8], y: usize, out: &mut [u8])
-    requires { ⌜ PlainRow l (now raw) y (now out) ⌝ }
+    requires { ⌜ PlainRowAsked l (now raw) y (now out) ⌝ }
     ensures { λ r. ⌜ PlainRendered l (now (raw .entry)) y (now (out .entry)) (now (out .exit)) ⌝ }
 {
     gather(l, raw, y, out);

@@ -4,9 +4,11 @@ use mathlib.Core.Path.{_≡_, refl, sym, ap, _∙_}
 use mathlib.Core.Bool.{Bool, true, false}
 use mathlib.Core.List.{List}
 use Prim.Native.Nat.{ℕ, _+_, _-_, _%_, _<_}
+use native.Mathlib.Decide.{decLt}
 use native.Mathlib.Nat.{add-zero, div-one, one-le-pow, mod-lt, mod-eq-of-lt, mod-add-mod, add-mod-right, add-comm}
 use native.Mathlib.Omega.{arith}
-use lib.ListN.{getD}
+use lib.ListN.{getD, drop, length-take, List·getD-eq-default}
+use Rattle.answer.proofs.Filling.{part, part-at}
 use Rattle.words.specs.Digits.{digit}
 use Rattle.words.specs.Word.{ordered, Bytes, wordAt, backwards, modulus, plus, minus}
 use Rattle.words.proofs.Digits.{value-same, value-below, digit-below, digit-value, value-digit}
@@ -96,3 +98,11 @@ plus-swapped width a b = ap (λ (x : ℕ). x % modulus width) (add-comm a b)
 
 pub plus-right : (width a b d : ℕ) → a < modulus width → b < modulus width → d < modulus width → plus width a b ≡ plus width a d → b ≡ d
 plus-right width a b d ha hb hd e = plus-left width b d a hb hd ha (plus-swapped width b a ∙ e ∙ plus-swapped width a d)
+
+-- bytes of a part are bytes
+pub part-bytes : (a e : ℕ) (l : List ℕ) → Bytes l → Bytes (part a e l)
+part-bytes a e l b i = by (decLt i (e - a))
+  where
+    by : Dec (i < e - a) → getD (part a e l) i 0 < 256
+    by (yes h) = rw (part-at a e l i h) (b (a + i))
+    by (no h) = rw (List·getD-eq-default (part a e l) 0 {n = i} (omega (arith, length-take (e - a) (drop a l)))) (omega arith)

@@ -1,4 +1,4 @@
--- A row of bytes or words: its bytes in the planes' order, then turned over by white but for alpha. Assumes nothing.
+-- A row of bytes or words: its bytes in the planes' order, then flipped by white but for alpha. Assumes nothing.
 use Prim.Native.Nat.{ℕ, _-_, _%_, _<_}
 use mathlib.Core.Path.{_≡_, refl, sym, ap, _∙_}
 use mathlib.Core.Bool.{Bool, true, false, not}
@@ -21,7 +21,7 @@ use Rattle.pixels.specs.Render.{flipped}
 use Rattle.pixels.specs.Finish.{Inverted, straightAt, straightFaults, Straightened, WholePixels}
 use Rattle.pixels.proofs.HighFirst.{narrow-served, stored-high-first}
 use Rattle.pixels.specs.Planes.{flipsChannel}
-use Rattle.writing.specs.Parts.{RowFlipped, PlainFits, PlainRow}
+use Rattle.writing.specs.Parts.{RowFlipped, PlainFits, PlainRowWritten}
 
 -- white, with no alpha, beside alpha, and none
 module _ (l : RasterLayout) (old : List ℕ) where
@@ -51,23 +51,23 @@ module _ {l : RasterLayout} {row old : List ℕ} (fits : PlainFits l row old) (b
       next (ap not (narrow-served (fits .width))) (next (ap not (eq-eqb _ _ (fits .words))) (next (le-ltb (length old) (length row) (omega (arith, fits .room))) none))
 
   module _ (answer : Done) (mid : List ℕ) (p : Reordered row (l .fields .bytes) false (l .fields .le) old answer mid) where
-    ordered : mid ≡ table (length row) (storedAt (l .fields .bytes) (l .fields .le) (wordOf (l .fields .bytes) false row))
-    ordered =
+    reordered : mid ≡ table (length row) (storedAt (l .fields .bytes) (l .fields .le) (wordOf (l .fields .bytes) false row))
+    reordered =
         finished (reorderFaults row (l .fields .bytes) old) tt (length row) _ old mid faultless p
         ∙ filled-all (length row) _ old (omega (arith, fits .room))
 
-    ordered-length : length mid ≡ length row
-    ordered-length = ap length ordered ∙ length-table (length row) _
+    reordered-length : length mid ≡ length row
+    reordered-length = ap length reordered ∙ length-table (length row) _
 
-    pub ordered-whole : WholePixels mid (l .fields .ch)
-    ordered-whole = record { some = fits .some; whole = ap (λ (n : ℕ). n % l .fields .ch) ordered-length ∙ fits .pixels }
+    pub reordered-whole : WholePixels mid (l .fields .ch)
+    reordered-whole = record { some = fits .some; whole = ap (λ (n : ℕ). n % l .fields .ch) reordered-length ∙ fits .pixels }
 
-    ordered-at : (k : ℕ) → k < length row → getD mid k 0 ≡ getD row (highFirst (l .fields .bytes) (l .fields .le) k) 0
-    ordered-at k h =
-        ap (λ (m : List ℕ). getD m k 0) ordered ∙ table-at (length row) _ k h ∙ stored-high-first row b (fits .width) false (l .fields .le) k
+    reordered-at : (k : ℕ) → k < length row → getD mid k 0 ≡ getD row (highFirst (l .fields .bytes) (l .fields .le) k) 0
+    reordered-at k h =
+        ap (λ (m : List ℕ). getD m k 0) reordered ∙ table-at (length row) _ k h ∙ stored-high-first row b (fits .width) false (l .fields .le) k
 
-    pub plain-done : (new : List ℕ) → RowFlipped l mid new → PlainRow l row old new
+    pub plain-done : (new : List ℕ) → RowFlipped l mid new → PlainRowWritten l row old new
     plain-done new q =
         q
-        ∙ ap (λ (n : ℕ). table n (λ j. flipped (flipsChannel l (j % l .fields .ch)) (getD mid j 0))) (ordered-length ∙ sym (fits .room))
-        ∙ table-same (length old) _ _ (λ j h. ap (flipped (flipsChannel l (j % l .fields .ch))) (ordered-at j (omega (arith, fits .room))))
+        ∙ ap (λ (n : ℕ). table n (λ j. flipped (flipsChannel l (j % l .fields .ch)) (getD mid j 0))) (reordered-length ∙ sym (fits .room))
+        ∙ table-same (length old) _ _ (λ j h. ap (flipped (flipsChannel l (j % l .fields .ch))) (reordered-at j (omega (arith, fits .room))))

@@ -21,14 +21,15 @@ use Rattle.layout.proofs.Placed.{output-is, scratch-limited}
 use Rattle.pixels.specs.Render.{flipped}
 use Rattle.pixels.specs.Finish.{Inverted}
 use Rattle.pixels.specs.Planes.{flipsChannel, placeIndex, flips, written}
-use Rattle.pixels.proofs.Places.{group-of, item-of, plane-is, apart-place}
-use Rattle.pixels.proofs.Undo.{not-picked}
+use Rattle.pixels.proofs.Places.{plane-is, apart-place}
+use Rattle.laws.proofs.Groups.{group-of, item-of}
+use Rattle.laws.proofs.Picks.{not-picked}
 use Rattle.writing.specs.Parts.{planar, channelAt, ChannelFits, ChannelInto, PlaneOf, PlaneWritten, Apart, WrittenInto}
 use Rattle.pixels.proofs.HighFirst.{one-or-two, high-first-in}
 
-module _ (l : RasterLayout) (s : Sound (recordFaults l)) (narrow : eqb (l .fields .bytes) 8 ≡ false) (xor : planar l ≡ true) where
+module _ (l : RasterLayout) (s : Sound (recordFaults l)) (narrow : eqb (l .fields .bytes) 8 ≡ false) (apart : planar l ≡ true) where
   separated : (l .fields .separate ≡ true) × (eqb (l .fields .slots) 8 ≡ false)
-  separated = both (up (l .fields .separate)) (down (eqb (l .fields .slots) 8)) .tells xor
+  separated = both (up (l .fields .separate)) (down (eqb (l .fields .slots) 8)) .tells apart
 
   plain : packed l ≡ false
   plain =
@@ -58,7 +59,7 @@ module _ (l : RasterLayout) (s : Sound (recordFaults l)) (narrow : eqb (l .field
         ∙ ap (λ (n : ℕ). p * (l .fields .ch * l .fields .bytes) + n) (high-first-in (l .fields .bytes) (one-or-two l s narrow) (l .fields .le) c b)
         ∙ omega arith
 
-    -- white turns over all of a plane or none of it
+    -- white flips all of a plane or none of it
     over-plane : (j : ℕ) → j < l .«plane_len» → flips l (placeIndex l (c * l .«plane_len» + j)) ≡ flipsChannel l c
     unfolding highFirst
     over-plane j h = by (eqb (l .fields .alpha) 0) refl

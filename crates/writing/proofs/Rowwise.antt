@@ -4,7 +4,7 @@ use mathlib.Core.Path.{_≡_, refl, sym, ap, _∙_}
 use mathlib.Core.Bool.{Bool, true, false, not, _&&_, _||_}
 use mathlib.Core.List.{List, _++_}
 use mathlib.Core.Logic.{_⊎_, inl, inr}
-use native.Mathlib.Nat.{zero-mul, add-mul, one-mul, mul-one, mul-comm, mul-assoc, mod-lt, div-add-mod', mul-mod-left, mul-add-mod-self-right, mul-le-mul, mul-le-mul-right}
+use native.Mathlib.Nat.{zero-mul, add-mul, one-mul, mul-one, mul-comm, mul-assoc, mod-lt, div-add-mod', mul-add-mod-self-right, mul-le-mul, mul-le-mul-right}
 use native.Mathlib.Omega.{arith}
 use borrow.Author.Tests.{eq-eqb, ne-eqb, eqb-true, eqb-false, ltb-true, le-ltb}
 use lib.ListN.{length, getD, take, drop}
@@ -24,19 +24,14 @@ use Rattle.layout.proofs.Sizes.{bytes-few, encoded-side}
 use Rattle.layout.proofs.Placed.{stride-some, row-is, plain-one, scratch-limited}
 use Rattle.pixels.specs.Render.{rowBytes, planeRow, flipped}
 use Rattle.pixels.specs.Planes.{flipsChannel, placeIndex, flips, bilevelBit, bilevelPlane, written}
-use Rattle.pixels.proofs.Places.{output-rows, group-of, item-of, together-is, together-place}
-use Rattle.pixels.proofs.Undo.{picked, not-picked, bilevel-scratch}
+use Rattle.pixels.proofs.Places.{output-rows, together-is, together-place}
+use Rattle.laws.proofs.Groups.{group-of, item-of, whole-last, whole-middle}
+use Rattle.pixels.proofs.Undo.{bilevel-scratch}
+use Rattle.laws.proofs.Picks.{picked, not-picked}
 use Rattle.packed.specs.Rows.{eighths, packedAt, packFaults, PackRow}
 use Rattle.pixels.specs.Render.{OneOrTwo}
-use Rattle.writing.specs.Parts.{planar, PlainFits, PlainRow, RowOf, rowAt, RowWritten, Together, WrittenInto}
+use Rattle.writing.specs.Parts.{planar, PlainFits, PlainRowWritten, RowGiven, rowAt, RowWritten, Together, WrittenInto}
 use Rattle.pixels.proofs.HighFirst.{one-or-two, high-first-in, high-first-below}
-
--- a row has whole words and whole pixels
-row-words : (l : RasterLayout) → rowBytes l % l .fields .bytes ≡ 0
-row-words l = rw (← mul-assoc (l .fields .w) (l .fields .ch) (l .fields .bytes)) (mul-mod-left (l .fields .w * l .fields .ch) (l .fields .bytes))
-
-row-pixels : (l : RasterLayout) → rowBytes l % l .fields .ch ≡ 0
-row-pixels l = rw (mul-comm (l .fields .ch) (l .fields .bytes), ← mul-assoc (l .fields .w) (l .fields .bytes) (l .fields .ch)) (mul-mod-left (l .fields .w * l .fields .bytes) (l .fields .ch))
 
 module _ (l : RasterLayout) (s : Sound (recordFaults l)) (bare : l .fields .palette ≡ false) (together : planar l ≡ false) where
   -- a byte holds eight samples, or all channels stand together
@@ -120,7 +115,7 @@ module _ (l : RasterLayout) (s : Sound (recordFaults l)) (bare : l .fields .pale
             rw (bilevel-row eight .1, item-of y (l .«encoded_width») inner, group-of y (l .«encoded_width») inner, long) (by (8 * j + (7 - p)) (ltb (8 * j + (7 - p)) (l .fields .w)) refl)
 
   -- a row of samples
-  module _ (plain : packed l ≡ false) (xor : l .fields .separate ≡ false) (narrow : eqb (l .fields .bytes) 8 ≡ false) where
+  module _ (plain : packed l ≡ false) (interleaved : l .fields .separate ≡ false) (narrow : eqb (l .fields .bytes) 8 ≡ false) where
     several : eqb (l .fields .slots) 8 ≡ false
     several = rw (plain-one l s plain .1)
 
@@ -134,7 +129,7 @@ module _ (l : RasterLayout) (s : Sound (recordFaults l)) (bare : l .fields .pale
         let whole : i / stride * stride + i % stride ≡ i = div-add-mod' i stride in
         let words-of : i / stride * stride ≡ i / stride * l .fields .ch * l .fields .bytes = sym (mul-assoc (i / stride) (l .fields .ch) (l .fields .bytes)) in
         ap (placeIndex l) (sym whole)
-        ∙ together-place l s plain xor (i / stride) (i % stride) (mod-lt i (stride-some l s))
+        ∙ together-place l s plain interleaved (i / stride) (i % stride) (mod-lt i (stride-some l s))
         ∙ ap (λ (n : ℕ). n + highFirst (l .fields .bytes) (l .fields .le) (i % stride)) words-of
         ∙ sym (high-first-in (l .fields .bytes) width (l .fields .le) (i / stride * l .fields .ch) (i % stride))
         ∙ ap (highFirst (l .fields .bytes) (l .fields .le)) (ap (λ (n : ℕ). n + i % stride) (sym words-of) ∙ whole)
@@ -162,7 +157,7 @@ module _ (l : RasterLayout) (s : Sound (recordFaults l)) (bare : l .fields .pale
       plain-byte : flipped (flipsChannel l (j % l .fields .ch)) (getD (part (y * rowBytes l) (y * rowBytes l + rowBytes l) picture) (highFirst (l .fields .bytes) (l .fields .le) j) 0) ≡ written l picture (y * rowBytes l + j)
       unfolding written
       plain-byte =
-          let inside = high-first-below (l .fields .bytes) width (l .fields .le) (rowBytes l) j (row-words l) h in
+          let inside = high-first-below (l .fields .bytes) width (l .fields .le) (rowBytes l) j (whole-last (l .fields .w) (l .fields .ch) (l .fields .bytes)) h in
           ap (flipped (flipsChannel l (j % l .fields .ch))) (part-at (y * rowBytes l) (y * rowBytes l + rowBytes l) picture (highFirst (l .fields .bytes) (l .fields .le) j) (omega arith) ∙ ap (λ (k : ℕ). getD picture k 0) (sym row-place))
           ∙ ap (λ (b : Bool). flipped b (getD picture (placeIndex l (y * rowBytes l + j)) 0)) (sym over-row)
           ∙ sym (not-picked _ _ several)
@@ -181,7 +176,7 @@ module _ (l : RasterLayout) (s : Sound (recordFaults l)) (bare : l .fields .pale
             ∙ ap (λ (n : ℕ). written l picture (y * n + j)) (sym same)
 
 -- a row, by itself
-module _ {l : RasterLayout} {row old : List ℕ} (fits : RowOf l row old) where
+module _ {l : RasterLayout} {row old : List ℕ} (fits : RowGiven l row old) where
   pub row-packed : l .fields .slots ≡ 8 → (answer : Done) (new : List ℕ) → PackRow row (l .fields .white) old answer new → RowWritten l row old new
   row-packed e answer new p =
       let sides = bilevel-row l (fits .sound) (fits .bare) (fits .together) e in
@@ -200,54 +195,54 @@ module _ {l : RasterLayout} {row old : List ℕ} (fits : RowOf l row old) where
         record {
           width = one-or-two l (fits .sound) (fits .narrow);
           some = record-accepted l (fits .sound) .some;
-          words = ap (λ (k : ℕ). k % l .fields .bytes) (fits .all) ∙ row-words l;
-          pixels = ap (λ (k : ℕ). k % l .fields .ch) (fits .all) ∙ row-pixels l;
+          words = ap (λ (k : ℕ). k % l .fields .bytes) (fits .all) ∙ whole-last (l .fields .w) (l .fields .ch) (l .fields .bytes);
+          pixels = ap (λ (k : ℕ). k % l .fields .ch) (fits .all) ∙ whole-middle (l .fields .w) (l .fields .ch) (l .fields .bytes);
           room = fits .room ∙ plain-row-same l (fits .sound) (fits .bare) (fits .together) not-packed ∙ sym (fits .all);
         }
 
-    pub row-plain : (new : List ℕ) → PlainRow l row old new → RowWritten l row old new
+    pub row-plain : (new : List ℕ) → PlainRowWritten l row old new → RowWritten l row old new
     row-plain new p = p ∙ table-same (length old) _ _ (λ j h. sym (not-picked _ _ (ne-eqb (l .fields .slots) 8 n)))
 
 -- the loop over the rows
-pub record Rowwise (l : RasterLayout) (picture old : List ℕ) (from at y : ℕ) (out : List ℕ) : Type 0 where
+pub record WrittenRows (l : RasterLayout) (picture old : List ℕ) (from at y : ℕ) (out : List ℕ) : Type 0 where
   pub from-is : from ≡ y * rowBytes l
   pub at-is : at ≡ y * planeRow l
   pub inside : y ≤ l .fields .h
   pub same : length out ≡ length old
   pub so-far : out ≡ filled at (written l picture) old
 
-pub rows-none : (l : RasterLayout) (picture old : List ℕ) → Rowwise l picture old 0 0 0 old
-rows-none l picture old =
+pub written-none : (l : RasterLayout) (picture old : List ℕ) → WrittenRows l picture old 0 0 0 old
+written-none l picture old =
     record { from-is = sym (zero-mul (rowBytes l)); at-is = sym (zero-mul (planeRow l)); inside = omega arith; same = refl; so-far = refl }
 
-module _ {l : RasterLayout} {picture old : List ℕ} {from at y : ℕ} {out : List ℕ} (fits : Together l picture old) (is : Rowwise l picture old from at y out) where
+module _ {l : RasterLayout} {picture old : List ℕ} {from at y : ℕ} {out : List ℕ} (fits : Together l picture old) (is : WrittenRows l picture old from at y out) where
   scratch : l .«scratch_len» ≡ l .fields .h * planeRow l
   scratch = scratch-rows l (fits .served .sound) (fits .served .bare) (fits .together)
 
   module _ (more : y < l .fields .h) where
-    pub row-room : (from + rowBytes l ≤ length picture) × ((at + planeRow l ≤ length old) × (at + planeRow l ≤ byteLimit))
-    row-room =
+    pub written-room : (from + rowBytes l ≤ length picture) × ((at + planeRow l ≤ length old) × (at + planeRow l ≤ byteLimit))
+    written-room =
         let served = fits .served in
         let read : (y + 1) * rowBytes l ≤ l .fields .h * rowBytes l = mul-le-mul-right (rowBytes l) (omega arith) in
         let wrote : (y + 1) * planeRow l ≤ l .fields .h * planeRow l = mul-le-mul-right (planeRow l) (omega arith) in
         let end : at + planeRow l ≤ l .«scratch_len» = omega (arith, is .at-is, add-mul y 1 (planeRow l), one-mul (planeRow l), scratch) in
         (omega (arith, is .from-is, add-mul y 1 (rowBytes l), one-mul (rowBytes l), output-rows l (served .sound), served .all), (omega (arith, served .room), omega (arith, scratch-limited l (served .sound))))
 
-    pub row-fits : RowOf l (part from (from + rowBytes l) picture) (part at (at + planeRow l) out)
+    pub row-fits : RowGiven l (part from (from + rowBytes l) picture) (part at (at + planeRow l) out)
     row-fits =
         record {
           sound = fits .served .sound;
           bare = fits .served .bare;
           narrow = fits .served .narrow;
           together = fits .together;
-          all = length-part from (from + rowBytes l) picture (omega arith) (row-room .0) ∙ omega arith;
-          room = length-part at (at + planeRow l) out (omega arith) (omega (arith, row-room, is .same)) ∙ omega arith;
+          all = length-part from (from + rowBytes l) picture (omega arith) (written-room .0) ∙ omega arith;
+          room = length-part at (at + planeRow l) out (omega arith) (omega (arith, written-room, is .same)) ∙ omega arith;
         }
 
-    pub row-next : (new : List ℕ) → RowWritten l (part from (from + rowBytes l) picture) (part at (at + planeRow l) out) new → Rowwise l picture old (from + rowBytes l) (at + planeRow l) (y + 1) (take at out ++ (new ++ drop (at + planeRow l - at) (drop at out)))
-    row-next new p =
+    pub written-next : (new : List ℕ) → RowWritten l (part from (from + rowBytes l) picture) (part at (at + planeRow l) out) new → WrittenRows l picture old (from + rowBytes l) (at + planeRow l) (y + 1) (take at out ++ (new ++ drop (at + planeRow l - at) (drop at out)))
+    written-next new p =
         let long : length (part at (at + planeRow l) out) ≡ at + planeRow l - at = row-fits .room ∙ omega arith in
-        let inside : y * rowBytes l + rowBytes l ≤ length picture = omega (arith, row-room, is .from-is) in
+        let inside : y * rowBytes l + rowBytes l ≤ length picture = omega (arith, written-room, is .from-is) in
         let each : (j : ℕ) → j < at + planeRow l - at → rowAt l (part from (from + rowBytes l) picture) j ≡ written l picture (at + j) =
         λ j h. rw (is .from-is, is .at-is) (row-byte l (fits .served .sound) (fits .served .bare) (fits .together) (fits .served .narrow) picture y inside j (omega arith)) in
         let all : new ≡ table (at + planeRow l - at) (λ k. written l picture (at + k)) =
@@ -257,12 +252,12 @@ module _ {l : RasterLayout} {picture old : List ℕ} {from at y : ℕ} {out : Li
           from-is = omega (arith, is .from-is, add-mul y 1 (rowBytes l), one-mul (rowBytes l));
           at-is = omega (arith, is .at-is, add-mul y 1 (planeRow l), one-mul (planeRow l));
           inside = omega arith;
-          same = ap length now ∙ length-filled (at + planeRow l) (written l picture) old (row-room .1 .0);
+          same = ap length now ∙ length-filled (at + planeRow l) (written l picture) old (written-room .1 .0);
           so-far = now;
         }
 
-  pub rows-ended : l .fields .h ≤ y → WrittenInto l picture old out
-  rows-ended end =
+  pub written-all : l .fields .h ≤ y → WrittenInto l picture old out
+  written-all end =
       let all : y ≡ l .fields .h = omega (arith, is .inside) in
       let whole : at ≡ l .«scratch_len» = is .at-is ∙ ap (λ (n : ℕ). n * planeRow l) all ∙ sym scratch in
       rw whole at (is .so-far)

@@ -1,15 +1,16 @@
 -- The search for a byte that is neither 0 nor 255: what is found of the bytes passed, and of all when it ends. Assumes nothing.
-use Prim.Native.Nat.{ℕ, zero, suc, _+_, _*_, _≤_, _<_}
+use Prim.Native.Nat.{ℕ, _+_, _*_, _≤_, _<_}
 use mathlib.Core.Path.{_≡_, refl, sym, ap, _∙_}
-use mathlib.Core.Bool.{Bool, true, false, _&&_, _||_}
+use mathlib.Core.Bool.{Bool, true, false, _||_}
 use mathlib.Core.List.{List}
-use native.Mathlib.Decide.{decLt}
 use native.Mathlib.Numerals.{add-one}
-use native.Mathlib.Nat.{add-mul, one-mul, mul-le-mul-right}
+use native.Mathlib.Nat.{add-mul, one-mul}
 use native.Mathlib.Omega.{arith}
 use lib.ListN.{getD}
 use lib.Dec.{eqb}
+use Rattle.laws.proofs.Groups.{grouped}
 use Rattle.pixels.specs.Planes.{twoLevels}
+use Rattle.laws.proofs.Says.{one-fails}
 
 -- one of the two levels
 abbrev level : ℕ → Bool
@@ -25,8 +26,7 @@ pub record Passed (picture : List ℕ) (w y x : ℕ) (sound : Bool) (at : ℕ) :
 module _ {picture : List ℕ} {w y x : ℕ} {sound : Bool} {at : ℕ} (is : Passed picture w y x sound at) where
   -- a byte of the picture
   pub byte-inside : (h : ℕ) → y < h → x < w → at < h * w
-  byte-inside h row column =
-      let rows : (y + 1) * w ≤ h * w = mul-le-mul-right w (omega arith) in omega (arith, is .at-is, add-mul y 1 w, one-mul w)
+  byte-inside h row column = rw (is .at-is) (grouped row column)
 
   pub level-passed : x < w → level (getD picture at 0) ≡ true → Passed picture w y (x + 1) sound (at + 1)
   level-passed more e =
@@ -48,13 +48,4 @@ rows-passed {picture} {w} {y} {sound} {at} is h e =
 
 -- a byte that is neither, and what is said of all bytes
 pub level-missed : (n : ℕ) (picture : List ℕ) (k : ℕ) → k < n → level (getD picture k 0) ≡ false → twoLevels n picture ≡ false
-level-missed zero picture k h e = absurd (omega arith)
-level-missed (suc n) picture k h e = by (decLt k n) (level-missed n picture k)
-  where
-    nowhere : (b : Bool) → (b && false) ≡ false
-    nowhere true = refl
-    nowhere false = refl
-
-    by : Dec (k < n) → (k < n → level (getD picture k 0) ≡ false → twoLevels n picture ≡ false) → twoLevels (suc n) picture ≡ false
-    by (yes l) before = rw (before l e)
-    by (no m) before = let last : n ≡ k = omega arith in rw last (rw e (nowhere (twoLevels k picture)))
+level-missed n picture k h e = one-fails (λ m. twoLevels m picture) (λ m. level (getD picture m 0)) (λ m. refl) n k h e

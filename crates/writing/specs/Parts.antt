@@ -1,25 +1,30 @@
 -- What the private functions need and do: the checks, planes one after another, and rows where the planes are one. Assumes nothing.
-use Prim.Native.Nat.{ℕ, _+_, _-_, _*_, _/_, _%_, _≤_, _<_}
+use Prim.Native.Nat.{ℕ, _+_, _*_, _/_, _%_, _≤_, _<_}
 use mathlib.Core.Path.{_≡_}
 use mathlib.Core.Bool.{Bool, true, false, not, _&&_}
-use mathlib.Core.List.{List}
+use mathlib.Core.List.{List, [], _∷_}
 use lib.ListN.{length, getD}
 use lib.Dec.{eqb}
-use Rattle.answer.specs.Outcome.{Sound, unless, pick, doneOutcome}
+use Rattle.answer.specs.Outcome.{Fault, Sound, pick, invalid}
 use Rattle.answer.specs.Table.{table, filled}
-use Rattle.answer.specs.declared.Done.{Done}
 use Rattle.layout.specs.declared.RasterLayout.{RasterLayout}
 use Rattle.layout.specs.Layout.{recordFaults, highFirst}
 use Rattle.pixels.specs.Render.{rowBytes, planeRow, flipped, OneOrTwo}
-use Rattle.pixels.specs.Planes.{flipsChannel, writeFaults, written}
+use Rattle.pixels.specs.Planes.{flipsChannel, twoLevels, written}
 use Rattle.packed.specs.Rows.{packedAt}
 
--- whether the planes can be written
-abbrev pub WriteChecked : RasterLayout → List ℕ → List ℕ → Done → Type 0
-WriteChecked l picture planes answer = doneOutcome answer ≡ unless (writeFaults l picture planes) tt
+-- a picture that is there, of a layout that can be
+pub record LevelsAsked (l : RasterLayout) (picture : List ℕ) : Type 0 where
+  pub sound : Sound (recordFaults l)
+  pub bare : l .fields .palette ≡ false
+  pub all : l .«output_len» ≤ length picture
+
+-- the last of document 01's faults, the only one of a picture's bytes
+abbrev pub levelFaults : RasterLayout → List ℕ → List Fault
+levelFaults l picture = invalid (eqb (l .fields .slots) 8 && not (twoLevels (l .«output_len») picture)) ∷ []
 
 -- past every refusal
-pub record Served (l : RasterLayout) (picture planes : List ℕ) : Type 0 where
+pub record WriteServed (l : RasterLayout) (picture planes : List ℕ) : Type 0 where
   pub sound : Sound (recordFaults l)
   pub bare : l .fields .palette ≡ false
   pub narrow : eqb (l .fields .bytes) 8 ≡ false
@@ -59,10 +64,10 @@ abbrev pub PlaneWritten : RasterLayout → List ℕ → ℕ → List ℕ → Lis
 PlaneWritten l picture c old new = new ≡ table (length old) (λ j. written l picture (c * l .«plane_len» + j))
 
 pub record Apart (l : RasterLayout) (picture planes : List ℕ) : Type 0 where
-  pub served : Served l picture planes
+  pub served : WriteServed l picture planes
   pub apart : planar l ≡ true
 
--- pixels whose bytes stand together, turned over by white
+-- pixels whose bytes stand together, flipped by white
 abbrev pub RowFlipped : RasterLayout → List ℕ → List ℕ → Type 0
 RowFlipped l old new = new ≡ table (length old) (λ j. flipped (flipsChannel l (j % l .fields .ch)) (getD old j 0))
 
@@ -74,11 +79,11 @@ pub record PlainFits (l : RasterLayout) (row out : List ℕ) : Type 0 where
   pub pixels : length row % l .fields .ch ≡ 0
   pub room : length out ≡ length row
 
-abbrev pub PlainRow : RasterLayout → List ℕ → List ℕ → List ℕ → Type 0
-PlainRow l row old new = new ≡ table (length old) (λ j. flipped (flipsChannel l (j % l .fields .ch)) (getD row (highFirst (l .fields .bytes) (l .fields .le) j) 0))
+abbrev pub PlainRowWritten : RasterLayout → List ℕ → List ℕ → List ℕ → Type 0
+PlainRowWritten l row old new = new ≡ table (length old) (λ j. flipped (flipsChannel l (j % l .fields .ch)) (getD row (highFirst (l .fields .bytes) (l .fields .le) j) 0))
 
 -- a row of the picture, and room for its row of the planes
-pub record RowOf (l : RasterLayout) (row out : List ℕ) : Type 0 where
+pub record RowGiven (l : RasterLayout) (row out : List ℕ) : Type 0 where
   pub sound : Sound (recordFaults l)
   pub bare : l .fields .palette ≡ false
   pub narrow : eqb (l .fields .bytes) 8 ≡ false
@@ -94,5 +99,5 @@ abbrev pub RowWritten : RasterLayout → List ℕ → List ℕ → List ℕ → 
 RowWritten l row old new = new ≡ table (length old) (rowAt l row)
 
 pub record Together (l : RasterLayout) (picture planes : List ℕ) : Type 0 where
-  pub served : Served l picture planes
+  pub served : WriteServed l picture planes
   pub together : planar l ≡ false

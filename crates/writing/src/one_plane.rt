@@ -1,9 +1,9 @@
 // One plane, row by row.
 use layout::RasterLayout;
 ghost use Rattle.pixels.specs.Finish.{WholePixels};
-ghost use Rattle.writing.specs.Parts.{RowFlipped, PlainFits, PlainRow, RowOf, RowWritten, Together, WrittenInto};
+ghost use Rattle.writing.specs.Parts.{RowFlipped, PlainFits, PlainRowWritten, RowGiven, RowWritten, Together, WrittenInto};
 
-// White turns over every byte but alpha's.
+// White flips every byte but alpha's.
 fn flip_row(l: RasterLayout, s: &mut [u8])
     requires { ⌜ WholePixels (now s) (l .fields .ch) ⌝ }
     ensures { λ r. ⌜ RowFlipped l (now (s .entry)) (now (s .exit)) ⌝ }
@@ -20,7 +20,7 @@ fn flip_row(l: RasterLayout, s: &mut [u8])
 // A row whose samples are bytes or words: its words in the planes' byte order.
 fn plain_row(l: RasterLayout, row: &[u8], out: &mut [u8])
     requires { ⌜ PlainFits l (now row) (now out) ⌝ }
-    ensures { λ r. ⌜ PlainRow l (now (row .entry)) (now (out .entry)) (now (out .exit)) ⌝ }
+    ensures { λ r. ⌜ PlainRowWritten l (now (row .entry)) (now (out .entry)) (now (out .exit)) ⌝ }
 {
     samples::reorder(row, l.fields.bytes, false, l.fields.le, out);
     flip_row(l, out);
@@ -28,7 +28,7 @@ fn plain_row(l: RasterLayout, row: &[u8], out: &mut [u8])
 
 // A row of the picture.
 fn write_row(l: RasterLayout, row: &[u8], out: &mut [u8])
-    requires { ⌜ RowOf l (now row) (now out) ⌝ }
+    requires { ⌜ RowGiven l (now row) (now out) ⌝ }
     ensures { λ r. ⌜ RowWritten l (now (row .entry)) (now (out .entry)) (now (out .exit)) ⌝ }
 {
     if l.fields.slots == 8 {

@@ -47,20 +47,12 @@ fn channel(picture: &[u8], first: usize, stride: usize, bytes: usize, le: bool, 
     }
 }
 
-// Whether white turns channel c over: every one but alpha.
+// Whether white flips channel c: every one but alpha.
 fn flips_channel(l: RasterLayout, c: usize) -> bool
     requires { ⌜ c < l .fields .ch ⌝ }
     ensures { λ r. ⌜ r ≡ flipsChannel l c ⌝ }
 {
-    if l.fields.white {
-        if l.fields.alpha == 0 {
-            true
-        } else {
-            c != l.fields.ch - 1
-        }
-    } else {
-        false
-    }
+    l.fields.white & ((l.fields.alpha == 0) | (c != l.fields.ch - 1))
 }
 
 // The plane of channel c.

@@ -6,8 +6,8 @@ use native.Mathlib.Omega.{arith}
 use lib.ListN.{length, length-set}
 use denote.Ref.{now}
 use Rattle.answer.specs.Table.{filled}
-use Rattle.answer.proofs.Filling.{filled-more}
 use Rattle.packed.specs.Rows.{packedAt}
+use Rattle.laws.proofs.Lists.{filled-one}
 use Rattle.packed.proofs.pack_whole.Statement.{statement}
 use Rattle.packed.proofs.pack_whole.Tie as tie
 
@@ -17,34 +17,13 @@ Inv-loop picture white out₀ bytes b₀ out b = (b ≤ length picture / 8) × (
 abbrev μ-loop : tie.MeasureT-loop
 μ-loop picture white out₀ bytes b₀ out b = length picture / 8 - b
 
-loop-holds : tie.Need-loop-holds Inv-loop μ-loop
-loop-holds c = (omega arith, refl, refl)
-
-mul-full-byte : tie.Need-mul-full-byte Inv-loop μ-loop
-mul-full-byte c = search needs
-
-full-byte-requires : tie.Need-full-byte-requires Inv-loop μ-loop
-full-byte-requires c κs = search needs
-
-slice-write-out : tie.Need-slice-write-out Inv-loop μ-loop
-slice-write-out c = omega arith
-
-add-b : tie.Need-add-b Inv-loop μ-loop
-add-b c = search needs
-
-loop-less : tie.Need-loop-less Inv-loop μ-loop
-loop-less c = search needs
-
 loop-again : tie.Need-loop-again Inv-loop μ-loop
 unfolding packedAt
 loop-again c =
     let at = c .before .before in
     let args = at .before .before .before .args in
     let byte : c .full-byte .result ≡ packedAt (args .white) (now (args .picture)) (at .loop .b) = c .full-byte .ensures in
-    (omega arith, simp length-set (omega arith), rw (byte, at .loop .inv .2) (filled-more (at .loop .b) (packedAt (args .white) (now (args .picture))) (now (args .out)) (omega arith)))
-
-same-length : tie.Need-same-length Inv-loop μ-loop
-same-length c = search needs
+    (omega arith, simp length-set (omega arith), filled-one (packedAt (args .white) (now (args .picture))) (now (args .out)) (at .loop .b) (at .loop .inv .2) byte (omega arith))
 
 returns : tie.Need-returns Inv-loop μ-loop
 returns c =
@@ -58,12 +37,12 @@ pack-whole-spec =
     (tie.spec
     Inv-loop
     μ-loop
-    loop-holds
-    mul-full-byte
-    full-byte-requires
-    slice-write-out
-    add-b
-    loop-less
+    (λ c. (omega arith, refl, refl))
+    (λ c. search needs)
+    (λ c κs. search needs)
+    (λ c. omega arith)
+    (λ c. search needs)
+    (λ c. search needs)
     loop-again
-    same-length
+    (λ c. search needs)
     returns)

@@ -19,41 +19,19 @@ Inv-loop raw white out₀ bytes i₀ out i = (i ≤ length out₀ / 8) × (lengt
 abbrev μ-loop : tie.MeasureT-loop
 μ-loop raw white out₀ bytes i₀ out i = length out₀ / 8 - i
 
-loop-holds : tie.Need-loop-holds Inv-loop μ-loop
-loop-holds c = (omega arith, refl, refl)
-
-shared-slice-read-flip : tie.Need-shared-slice-read-flip Inv-loop μ-loop
-shared-slice-read-flip c = search needs
-
-flip-requires : tie.Need-flip-requires Inv-loop μ-loop
-flip-requires c κs = search needs
-
-mul-spread8 : tie.Need-mul-spread8 Inv-loop μ-loop
-mul-spread8 c = search needs
-
-spread8-requires : tie.Need-spread8-requires Inv-loop μ-loop
-spread8-requires c κs = search needs
-
-add-i : tie.Need-add-i Inv-loop μ-loop
-add-i c = search needs
-
-loop-less : tie.Need-loop-less Inv-loop μ-loop
-loop-less c = search needs
-
 loop-again : tie.Need-loop-again Inv-loop μ-loop
 loop-again c =
-    let at = c .before .before .before .before .before .before .before in
-    let start = at .before .before .before in
-    let args = start .args in
-    let more = c .before .before .before .before .before .before .loop-test .taken in
-    let byte : c .before .before .before .before .flip .result ≡ flipped (args .white) (getD (now (args .raw)) (at .loop .i) 0) = c .before .before .before .before .flip .ensures in
+    let spread = c .before .before in
+    let flip = spread .before .before in
+    let turn = flip .before .before in
+    let at = turn .before in
+    let args = at .before .before .before .args in
+    let more = turn .loop-test .taken in
+    let byte : flip .flip .result ≡ flipped (args .white) (getD (now (args .raw)) (at .loop .i) 0) = flip .flip .ensures in
     let next : 8 * at .loop .i + 8 ≡ 8 * (at .loop .i + 1) = omega arith in
     let old = now (args .out) in
-    let put = spread-filled (now (args .raw)) (args .white) old (at .loop .out) _ (at .loop .i) 8 (omega arith) (omega arith) (omega (arith, at .before .before .shared-slice-known .given (at .loop .i))) (at .loop .inv .2) (rw byte at (c .before .before .spread8 .ensures)) in
+    let put = spread-filled (now (args .raw)) (args .white) old (at .loop .out) _ (at .loop .i) 8 (omega arith) (omega arith) (omega (arith, at .before .before .shared-slice-known .given (at .loop .i))) (at .loop .inv .2) (rw byte at (spread .spread8 .ensures)) in
     (omega arith, ap length put ∙ length-filled (8 * at .loop .i + 8) (bilevelAt (args .white) (now (args .raw))) old (omega arith), rw next at put)
-
-same-length : tie.Need-same-length Inv-loop μ-loop
-same-length c = search needs
 
 returns : tie.Need-returns Inv-loop μ-loop
 returns c =
@@ -67,13 +45,13 @@ spread-whole-spec =
     (tie.spec
     Inv-loop
     μ-loop
-    loop-holds
-    shared-slice-read-flip
-    flip-requires
-    mul-spread8
-    spread8-requires
-    add-i
-    loop-less
+    (λ c. (omega arith, refl, refl))
+    (λ c. search needs)
+    (λ c κs. search needs)
+    (λ c. search needs)
+    (λ c κs. search needs)
+    (λ c. search needs)
+    (λ c. search needs)
     loop-again
-    same-length
+    (λ c. search needs)
     returns)

@@ -1,50 +1,47 @@
 -- `rendering::packed_row` meets its contract: the laws are in proofs/PackedRows.antt. Assumes nothing.
 use borrow.Author.Needs.{needs}
 use native.Mathlib.Omega.{arith}
+use Prim.Native.Nat.{_+_, _*_, _≤_}
 use mathlib.Core.Logic.{⊎-elim}
+use lib.ListN.{length}
+use denote.Ref.{now}
+use Rattle.layout.specs.Layout.{byteLimit}
 use Rattle.laws.proofs.Says.{clash, up, equal, either}
 use Rattle.rendering.proofs.PackedRows.{packed-row-end, packed-limited, palette-rendered, bilevel-rendered}
 use Rattle.rendering.proofs.packed_row.Statement.{statement}
 use Rattle.rendering.proofs.packed_row.Tie as tie
 
-mul-from : tie.Need-mul-from
-mul-from c = let start = c .before .before .before .before in record { fits = omega (arith, packed-row-end (start .pre .0) (start .pre .1), packed-limited (start .pre .0) (start .pre .1)) }
+-- where the row of the planes is taken
+abbrev start : tie.After-row → tie.Start
+start c = let known = c .before .before in known .before .before .before .before
 
-add-end : tie.Need-add-end
-add-end c = let start = c .before .before .before .before .before in omega (arith, packed-row-end (start .pre .0) (start .pre .1), packed-limited (start .pre .0) (start .pre .1))
-
-sub-row : tie.Need-sub-row
-sub-row c = search needs
-
-part-row-start : tie.Need-part-row-start
-part-row-start c = search needs
-
-part-row-end : tie.Need-part-row-end
-part-row-end c = let start = c .before .before .before .before .before in omega (arith, packed-row-end (start .pre .0) (start .pre .1), start .pre .0 .planes)
-
-palette-row-requires : tie.Need-palette-row-requires
-palette-row-requires c κs = search needs
-
-bilevel-row-requires : tie.Need-bilevel-row-requires
-bilevel-row-requires c κs = search needs
-
-same-length : tie.Need-same-length
-same-length c = search needs
-
-returns : tie.Need-returns
-returns c =
-    let start = c .before .before .before .before .before .before .before .before .before .before .before in
-    palette-rendered (start .pre .0) (start .pre .1) (c .before .before .before .before .if1 .taken) (c .before .before .palette-row .result) _ (c .before .before .palette-row .ensures)
-
-same-length-2 : tie.Need-same-length-2
-same-length-2 c = search needs
-
-returns-2 : tie.Need-returns-2
-returns-2 c =
-    let start = c .before .before .before .before .before .before .before .before .before .before .before in
-    let off = c .before .before .before .before .if1 .left in
-    bilevel-rendered (start .pre .0) (start .pre .1) off (⊎-elim (λ t. clash t off) (λ q. q) (either (up (start .args .l .fields .palette)) (equal (start .args .l .fields .slots) 8) .tells (start .pre .1))) (c .before .before .bilevel-row .result) _ (c .before .before .bilevel-row .ensures)
+-- it lies in the planes
+inside : (c : tie.Start) → let end = c .args .y * c .args .l .«encoded_width» + c .args .l .«encoded_width» in (end ≤ length (now (c .args .raw))) × (end ≤ byteLimit)
+inside c =
+    let pre = c .pre in
+    (omega (arith, packed-row-end (pre .0) (pre .1), pre .0 .planes), omega (arith, packed-row-end (pre .0) (pre .1), packed-limited (pre .0) (pre .1)))
 
 pub packed-row-spec : {M : Type 1} → statement M
 packed-row-spec =
-    tie.close (tie.spec mul-from add-end sub-row part-row-start part-row-end palette-row-requires bilevel-row-requires same-length returns same-length-2 returns-2)
+    tie.close
+    (tie.spec
+    (λ c. record { fits = omega (arith, inside (c .before .before .before .before)) })
+    (λ c. let known = c .before in omega (arith, inside (known .before .before .before .before)))
+    (λ c. search needs)
+    (λ c. search needs)
+    (λ c. let known = c .before in omega (arith, inside (known .before .before .before .before)))
+    (λ c κs. search needs)
+    (λ c κs. search needs)
+    (λ c. search needs)
+    (λ c.
+    let called = c .before .before in
+    let arm = called .before .before in
+    let pre = start (arm .before) .pre in palette-rendered (pre .0) (pre .1) (arm .if1 .taken) (called .palette-row .result) _ (called .palette-row .ensures))
+    (λ c. search needs)
+    (λ c.
+    let called = c .before .before in
+    let arm = called .before .before in
+    let from = start (arm .before) in
+    let l = from .args .l in
+    let eight = ⊎-elim (λ t. clash t (arm .if1 .left)) (λ q. q) (either (up (l .fields .palette)) (equal (l .fields .slots) 8) .tells (from .pre .1)) in
+    bilevel-rendered (from .pre .0) (from .pre .1) (arm .if1 .left) eight (called .bilevel-row .result) _ (called .bilevel-row .ensures)))

@@ -6,33 +6,29 @@ use Rattle.rendering.proofs.Picture.{plain-row-of, plain-row-rendered}
 use Rattle.rendering.proofs.render_row.Statement.{statement}
 use Rattle.rendering.proofs.render_row.Tie as tie
 
-packed-row-requires : tie.Need-packed-row-requires
-packed-row-requires c κs = let start = c .before .before .before .before .before in (start .pre, rw (c .before .if1 .taken))
-
-packed-row-requires-2 : tie.Need-packed-row-requires-2
-packed-row-requires-2 c κs = let start = c .before .before .before .before .before .before .before in (start .pre, rw (c .before .before .before .if1 .left, c .before .if2 .taken))
-
-plain-row-requires : tie.Need-plain-row-requires
-plain-row-requires c κs = let start = c .before .before .before .before .before .before .before in plain-row-of (start .pre) (rw (c .before .before .before .if1 .left, ne-eqb _ _ (c .before .if2 .left)))
-
-same-length : tie.Need-same-length
-same-length c = search needs
-
-returns : tie.Need-returns
-returns c = search needs
-
-same-length-2 : tie.Need-same-length-2
-same-length-2 c = search needs
-
-returns-2 : tie.Need-returns-2
-returns-2 c = search needs
-
-same-length-3 : tie.Need-same-length-3
-same-length-3 c = search needs
-
-returns-3 : tie.Need-returns-3
-returns-3 c = let start = c .before .before .before .before .before .before .before .before .before .before in plain-row-rendered (start .args .l) (now (start .args .file)) (now (start .args .raw)) (start .args .y) (now (start .args .out)) _ (c .before .before .before .before .before .before .if1 .left) (ne-eqb _ _ (c .before .before .before .before .if2 .left)) (c .before .before .plain-row .ensures)
+-- where the row begins, if there is no palette
+abbrev start : tie.Else1 → tie.Start
+start c = c .before .before .before .before
 
 pub render-row-spec : {M : Type 1} → statement M
 render-row-spec =
-    tie.close (tie.spec packed-row-requires packed-row-requires-2 plain-row-requires same-length returns same-length-2 returns-2 same-length-3 returns-3)
+    tie.close
+    (tie.spec
+    (λ c κs. let arm = c .before in (arm .before .before .before .before .pre, rw (arm .if1 .taken)))
+    (λ c κs.
+    let arm = c .before in
+    let bare = arm .before .before in (start bare .pre, rw (bare .if1 .left, arm .if2 .taken)))
+    (λ c κs.
+    let arm = c .before in
+    let bare = arm .before .before in plain-row-of (start bare .pre) (rw (bare .if1 .left, ne-eqb _ _ (arm .if2 .left))))
+    (λ c. search needs)
+    (λ c. search needs)
+    (λ c. search needs)
+    (λ c. search needs)
+    (λ c. search needs)
+    (λ c.
+    let called = c .before .before in
+    let arm = called .before .before in
+    let bare = arm .before .before in
+    let args = start bare .args in
+    plain-row-rendered (args .l) (now (args .file)) (now (args .raw)) (args .y) (now (args .out)) _ (bare .if1 .left) (ne-eqb _ _ (arm .if2 .left)) (called .plain-row .ensures)))

@@ -1,31 +1,27 @@
 -- `writing::check_write` meets its contract: the record's refusal, then the others. Assumes nothing.
 use borrow.Author.Needs.{needs}
 use denote.Ref.{now}
-use Rattle.answer.proofs.Promised.{refusing, first-more, passed, stopped}
+use Rattle.answer.specs.Outcome.{Step}
+use Rattle.answer.proofs.Promised.{step-sound, step-refused, step-on}
 use Rattle.layout.specs.Layout.{recordFaults}
-use Rattle.writing.proofs.Checks.{planesFaults}
+use Rattle.pixels.specs.Planes.{planeFaults}
 use Rattle.writing.proofs.check_write.Statement.{statement}
 use Rattle.writing.proofs.check_write.Tie as tie
 
-check-record-requires : tie.Need-check-record-requires
-check-record-requires c κs = search needs
-
-enum-known-k : tie.Need-enum-known-k
-enum-known-k c = search needs
-
-enum-told : tie.Need-enum-told
-enum-told c = search needs
-
-check-planes-requires : tie.Need-check-planes-requires
-check-planes-requires c κs = passed _ (c .before .before .check-record .result) (c .before .before .check-record .ensures) (c .enum-told .given .1)
-
-returns : tie.Need-returns
-returns c =
-    let args = c .before .before .before .before .before .before .args in
-    refusing _ tt (first-more (planesFaults (args .l) (now (args .picture)) (now (args .planes))) (stopped (recordFaults (args .l)) _ _ (c .before .before .before .check-record .ensures) (c .before .k .given .1)))
-
-returns-2 : tie.Need-returns-2
-returns-2 c = c .check-planes .ensures
+-- the record's faults
+recorded : (c : tie.After-check-record) → Step (recordFaults (c .before .before .before .args .l)) (c .check-record .result)
+recorded c = record { passed = c .check-record .ensures }
 
 pub check-write-spec : {M : Type 1} → statement M
-check-write-spec = tie.close (tie.spec check-record-requires enum-known-k enum-told check-planes-requires returns returns-2)
+check-write-spec =
+    tie.close
+    (tie.spec
+    (λ c κs. search needs)
+    (λ c. search needs)
+    (λ c. search needs)
+    (λ c κs. step-sound (recorded (c .before .before)) (c .enum-told .given .1))
+    (λ c.
+    let asked = c .before .before .before in
+    let args = asked .before .before .before .args in
+    step-refused (planeFaults (args .l) (now (args .picture)) (now (args .planes))) (recorded asked) (c .before .k .given .1))
+    (λ c. let told = c .before in step-on (recorded (told .before .before)) (told .enum-told .given .1) (c .check-planes .ensures)))

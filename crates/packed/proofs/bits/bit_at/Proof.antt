@@ -12,16 +12,16 @@ returns c =
     let args = c .before .before .args in
     (omega (arith, bit-past (args .white) (now (args .picture)) (args .k) (omega (arith, c .if1 .taken))), omega arith)
 
-shared-slice-read-bit : tie.Need-shared-slice-read-bit
-shared-slice-read-bit c = search needs
-
-bit-requires : tie.Need-bit-requires
-bit-requires c κs = search needs
-
 returns-2 : tie.Need-returns-2
 returns-2 c =
     let args = c .before .before .before .before .args in
     (c .bit .ensures .0 ∙ bit-within (args .white) (now (args .picture)) (args .k) (omega (arith, c .before .before .if1 .left)), c .bit .ensures .1)
 
 pub bit-at-spec : {M : Type 1} → statement M
-bit-at-spec = tie.close (tie.spec returns shared-slice-read-bit bit-requires returns-2)
+bit-at-spec =
+    tie.close
+    (tie.spec
+    returns
+    (λ c. search needs)
+    (λ c κs. search needs)
+    returns-2)

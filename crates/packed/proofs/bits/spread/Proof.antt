@@ -16,41 +16,11 @@ Inv-loop t n out₀ at p₀ out p = (p ≤ n) × (length out ≡ length out₀) 
 abbrev μ-loop : tie.MeasureT-loop
 μ-loop t n out₀ at p₀ out p = n - p
 
-loop-holds : tie.Need-loop-holds Inv-loop μ-loop
-loop-holds c = (omega arith, refl, refl)
-
-sub-out : tie.Need-sub-out Inv-loop μ-loop
-sub-out c = search needs
-
-cast-out : tie.Need-cast-out Inv-loop μ-loop
-cast-out c = search needs
-
-shr-out : tie.Need-shr-out Inv-loop μ-loop
-shr-out c = search needs
-
-mul-out : tie.Need-mul-out Inv-loop μ-loop
-mul-out c = search needs
-
-add-out : tie.Need-add-out Inv-loop μ-loop
-add-out c = search needs
-
-slice-write-out : tie.Need-slice-write-out Inv-loop μ-loop
-slice-write-out c = omega arith
-
-add-p : tie.Need-add-p Inv-loop μ-loop
-add-p c = search needs
-
-loop-less : tie.Need-loop-less Inv-loop μ-loop
-loop-less c = search needs
-
 loop-again : tie.Need-loop-again Inv-loop μ-loop
 loop-again c =
     let at = c .before in
     let args = at .before .args in
     (omega arith, simp length-set (omega arith), rw (add-one (at .loop .p)) (ap (λ (l : List ℕ). set l (args .at + at .loop .p) (255 * (args .t / 2 ^ (7 - at .loop .p) % 2))) (at .loop .inv .2)))
-
-same-length : tie.Need-same-length Inv-loop μ-loop
-same-length c = search needs
 
 returns : tie.Need-returns Inv-loop μ-loop
 returns c =
@@ -64,15 +34,15 @@ spread-spec =
     (tie.spec
     Inv-loop
     μ-loop
-    loop-holds
-    sub-out
-    cast-out
-    shr-out
-    mul-out
-    add-out
-    slice-write-out
-    add-p
-    loop-less
+    (λ c. (omega arith, refl, refl))
+    (λ c. search needs)
+    (λ c. search needs)
+    (λ c. search needs)
+    (λ c. search needs)
+    (λ c. search needs)
+    (λ c. omega arith)
+    (λ c. search needs)
+    (λ c. search needs)
     loop-again
-    same-length
+    (λ c. search needs)
     returns)

@@ -8,12 +8,6 @@ use denote.Ref.{now}
 use Rattle.packed.proofs.paint.index1.Statement.{statement}
 use Rattle.packed.proofs.paint.index1.Tie as tie
 
-shared-slice-read-result : tie.Need-shared-slice-read-result
-shared-slice-read-result c = search needs
-
-cast-result : tie.Need-cast-result
-cast-result c = omega (arith, c .shared-slice-known .given (c .before .args .x))
-
 returns : tie.Need-returns
 returns c =
     let args = c .before .args in
@@ -21,4 +15,9 @@ returns c =
     (rw (div-one (args .x)) (omega arith), byte)
 
 pub index1-spec : {M : Type 1} → statement M
-index1-spec = tie.close (tie.spec shared-slice-read-result cast-result returns)
+index1-spec =
+    tie.close
+    (tie.spec
+    (λ c. search needs)
+    (λ c. omega (arith, c .shared-slice-known .given (c .before .args .x)))
+    returns)

@@ -8,39 +8,6 @@ use lib.ListN.{length-set}
 use Rattle.packed.proofs.paint.paint.Statement.{statement}
 use Rattle.packed.proofs.paint.paint.Tie as tie
 
-add-green : tie.Need-add-green
-add-green c = search needs
-
-add-blue : tie.Need-add-blue
-add-blue c = search needs
-
-shared-slice-read-out : tie.Need-shared-slice-read-out
-shared-slice-read-out c = search needs
-
-slice-write-out : tie.Need-slice-write-out
-slice-write-out c = omega arith
-
-shared-slice-read-out-2 : tie.Need-shared-slice-read-out-2
-shared-slice-read-out-2 c = search needs
-
-add-out : tie.Need-add-out
-add-out c = search needs
-
-slice-write-out-2 : tie.Need-slice-write-out-2
-slice-write-out-2 c = simp length-set (omega arith)
-
-shared-slice-read-out-3 : tie.Need-shared-slice-read-out-3
-shared-slice-read-out-3 c = search needs
-
-add-out-2 : tie.Need-add-out-2
-add-out-2 c = search needs
-
-slice-write-out-3 : tie.Need-slice-write-out-3
-slice-write-out-3 c = simp length-set (omega arith)
-
-same-length : tie.Need-same-length
-same-length c = simp length-set
-
 returns : tie.Need-returns
 returns c =
     let args = c .before .before .before .args in
@@ -53,15 +20,15 @@ pub paint-spec : {M : Type 1} → statement M
 paint-spec =
     tie.close
     (tie.spec
-    add-green
-    add-blue
-    shared-slice-read-out
-    slice-write-out
-    shared-slice-read-out-2
-    add-out
-    slice-write-out-2
-    shared-slice-read-out-3
-    add-out-2
-    slice-write-out-3
-    same-length
+    (λ c. search needs)
+    (λ c. search needs)
+    (λ c. search needs)
+    (λ c. omega arith)
+    (λ c. search needs)
+    (λ c. search needs)
+    (λ c. simp length-set (omega arith))
+    (λ c. search needs)
+    (λ c. search needs)
+    (λ c. simp length-set (omega arith))
+    (λ c. simp length-set)
     returns)

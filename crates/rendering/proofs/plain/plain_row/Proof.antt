@@ -1,25 +1,20 @@
 -- `rendering::plain::plain_row` meets its contract. Assumes nothing.
 use borrow.Author.Needs.{needs}
-use mathlib.Core.Path.{ap, _∙_}
-use lib.ListN.{length}
-use Rattle.answer.proofs.Filling.{length-table}
-use Rattle.rendering.proofs.Finishing.{whole-row, plain-rendered}
+use Rattle.rendering.proofs.Finishing.{whole-gathered, plain-rendered}
 use Rattle.rendering.proofs.plain.plain_row.Statement.{statement}
 use Rattle.rendering.proofs.plain.plain_row.Tie as tie
 
-gather-requires : tie.Need-gather-requires
-gather-requires c κs = search needs
-
-finish-requires : tie.Need-finish-requires
-finish-requires c κs =
-    whole-row (c .before .before .before .before .before .before .before .pre) _ (ap length (c .before .before .before .gather .ensures) ∙ length-table _ _)
-
-same-length : tie.Need-same-length
-same-length c = search needs
-
-returns : tie.Need-returns
-returns c =
-    plain-rendered (c .before .before .before .before .before .before .before .before .before .before .pre) _ _ (c .before .before .before .before .before .before .gather .ensures) (c .before .before .finish .ensures)
+-- where the row is gathered, and where it begins
+abbrev start : tie.After-gather → tie.Start
+start c = c .before .before .before .before
 
 pub plain-row-spec : {M : Type 1} → statement M
-plain-row-spec = tie.close (tie.spec gather-requires finish-requires same-length returns)
+plain-row-spec =
+    tie.close
+    (tie.spec
+    (λ c κs. search needs)
+    (λ c κs. let gathered = c .before .before .before in whole-gathered (start gathered .pre) _ (gathered .gather .ensures))
+    (λ c. search needs)
+    (λ c.
+    let finished = c .before .before in
+    let gathered = finished .before .before .before .before in plain-rendered (start gathered .pre) _ _ (gathered .gather .ensures) (finished .finish .ensures)))

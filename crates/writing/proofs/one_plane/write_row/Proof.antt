@@ -5,24 +5,17 @@ use Rattle.writing.proofs.Rowwise.{row-packed, plain-fits, row-plain}
 use Rattle.writing.proofs.one_plane.write_row.Statement.{statement}
 use Rattle.writing.proofs.one_plane.write_row.Tie as tie
 
-pack-row-requires : tie.Need-pack-row-requires
-pack-row-requires c κs = search needs
-
-plain-row-requires : tie.Need-plain-row-requires
-plain-row-requires c κs = plain-fits (c .before .before .before .before .before .pre) (c .before .if1 .left)
-
-same-length : tie.Need-same-length
-same-length c = search needs
-
-returns : tie.Need-returns
-returns c =
-    row-packed (c .before .before .before .before .before .before .before .before .pre) (omega (arith, c .before .before .before .before .if1 .taken)) (c .before .before .pack-row .result) _ (c .before .before .pack-row .ensures)
-
-same-length-2 : tie.Need-same-length-2
-same-length-2 c = search needs
-
-returns-2 : tie.Need-returns-2
-returns-2 c = row-plain (c .before .before .before .before .before .before .before .before .pre) (c .before .before .before .before .if1 .left) _ (c .before .before .plain-row .ensures)
-
 pub write-row-spec : {M : Type 1} → statement M
-write-row-spec = tie.close (tie.spec pack-row-requires plain-row-requires same-length returns same-length-2 returns-2)
+write-row-spec =
+    tie.close
+    (tie.spec
+    (λ c κs. search needs)
+    (λ c κs. let arm = c .before in plain-fits (arm .before .before .before .before .pre) (arm .if1 .left))
+    (λ c. search needs)
+    (λ c.
+    let called = c .before .before in
+    let arm = called .before .before in row-packed (arm .before .before .before .before .pre) (omega (arith, arm .if1 .taken)) (called .pack-row .result) _ (called .pack-row .ensures))
+    (λ c. search needs)
+    (λ c.
+    let called = c .before .before in
+    let arm = called .before .before in row-plain (arm .before .before .before .before .pre) (arm .if1 .left) _ (called .plain-row .ensures)))

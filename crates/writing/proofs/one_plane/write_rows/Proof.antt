@@ -1,77 +1,54 @@
 -- `writing::one_plane::write_rows` meets its contract: the invariant and its laws are in proofs/Rowwise.antt. Assumes nothing.
 use borrow.Author.Needs.{needs}
 use native.Mathlib.Omega.{arith}
-use Prim.Native.Nat.{_-_}
-use Rattle.writing.proofs.Rowwise.{Rowwise, rows-few, rows-none, row-room, row-fits, row-next, rows-ended}
+use Prim.Native.Nat.{_*_, _-_, _≤_, _<_}
+use Rattle.layout.specs.Layout.{sideLimit}
+use Rattle.pixels.specs.Render.{rowBytes, planeRow}
+use Rattle.writing.proofs.Rowwise.{WrittenRows, rows-few, written-none, written-room, row-fits, written-next, written-all}
 use Rattle.writing.proofs.one_plane.write_rows.Statement.{statement}
 use Rattle.writing.proofs.one_plane.write_rows.Tie as tie
 
 abbrev Inv-loop : tie.InvT-loop
-Inv-loop l picture planes₀ read wrote from₀ at₀ y₀ planes from at y = Rowwise l picture planes₀ from at y planes
+Inv-loop l picture planes₀ read wrote from₀ at₀ y₀ planes from at y = WrittenRows l picture planes₀ from at y planes
 
 abbrev μ-loop : tie.MeasureT-loop
 μ-loop l picture planes₀ read wrote from₀ at₀ y₀ planes from at y = l .fields .h - y
 
-mul-read : tie.Need-mul-read Inv-loop μ-loop
-mul-read c = let start = c .before .before .before in omega (arith, rows-few (start .args .l) (start .pre .served .sound) (start .pre .served .bare) (start .pre .together))
+-- no product wraps
+few : (c : tie.Start Inv-loop μ-loop) → let l = c .args .l in ((l .fields .ch * l .fields .bytes ≤ 32) × (rowBytes l ≤ sideLimit * 32)) × (planeRow l ≤ sideLimit * 32)
+few c = let pre = c .pre in rows-few (c .args .l) (pre .served .sound) (pre .served .bare) (pre .together)
 
-mul-read-2 : tie.Need-mul-read-2 Inv-loop μ-loop
-mul-read-2 c = let start = c .before .before .before .before in omega (arith, rows-few (start .args .l) (start .pre .served .sound) (start .pre .served .bare) (start .pre .together))
+abbrev start : tie.At-loop Inv-loop μ-loop → tie.Start Inv-loop μ-loop
+start c = let known = c .before .before in known .before .before .before .before
 
-mul-wrote : tie.Need-mul-wrote Inv-loop μ-loop
-mul-wrote c = let start = c .before .before .before .before .before in omega (arith, rows-few (start .args .l) (start .pre .served .sound) (start .pre .served .bare) (start .pre .together))
+-- where a turn begins, and that there is a row left
+abbrev turn : tie.After-slice-known2 Inv-loop μ-loop → tie.Then1 Inv-loop μ-loop
+turn c = let called = c .before .before in called .before .before .before
 
-loop-holds : tie.Need-loop-holds Inv-loop μ-loop
-loop-holds c = rows-none _ _ _
-
-add-end : tie.Need-add-end Inv-loop μ-loop
-add-end c = let at = c .before .before in omega (arith, row-room (at .before .before .before .before .before .before .pre) (at .loop .inv) (omega (arith, c .if1 .taken)), at .before .before .before .before .before .before .good)
-
-add-stop : tie.Need-add-stop Inv-loop μ-loop
-add-stop c =
-    let at = c .before .before in
-    let start = at .before .before .before .before .before .before in
-    omega (arith, row-room (start .pre) (at .loop .inv) (omega (arith, c .if1 .taken)), rows-few (start .args .l) (start .pre .served .sound) (start .pre .served .bare) (start .pre .together))
-
-sub-write-row : tie.Need-sub-write-row Inv-loop μ-loop
-sub-write-row c = omega arith
-
-part-write-row-start : tie.Need-part-write-row-start Inv-loop μ-loop
-part-write-row-start c = omega arith
-
-part-write-row-end : tie.Need-part-write-row-end Inv-loop μ-loop
-part-write-row-end c = let at = c .before .before in omega (arith, row-room (at .before .before .before .before .before .before .pre) (at .loop .inv) (omega (arith, c .if1 .taken)))
-
-sub-write-row-2 : tie.Need-sub-write-row-2 Inv-loop μ-loop
-sub-write-row-2 c = omega arith
-
-part-write-row-start-2 : tie.Need-part-write-row-start-2 Inv-loop μ-loop
-part-write-row-start-2 c = omega arith
-
-part-write-row-end-2 : tie.Need-part-write-row-end-2 Inv-loop μ-loop
-part-write-row-end-2 c = let at = c .before .before .before in omega (arith, row-room (at .before .before .before .before .before .before .pre) (at .loop .inv) (omega (arith, c .before .if1 .taken)), at .loop .inv .same)
-
-write-row-requires : tie.Need-write-row-requires Inv-loop μ-loop
-write-row-requires c κs =
-    let at = c .before .before .before .before in row-fits (at .before .before .before .before .before .before .pre) (at .loop .inv) (omega (arith, c .before .before .if1 .taken))
-
-add-y : tie.Need-add-y Inv-loop μ-loop
-add-y c = omega (arith, c .before .before .before .before .before .if1 .taken)
-
-loop-less : tie.Need-loop-less Inv-loop μ-loop
-loop-less c = omega (arith, c .before .before .before .before .before .if1 .taken)
-
-loop-again : tie.Need-loop-again Inv-loop μ-loop
-loop-again c =
-    let at = c .before .before .before .before .before .before .before in
-    row-next (at .before .before .before .before .before .before .pre) (at .loop .inv) (omega (arith, c .before .before .before .before .before .if1 .taken)) _ (c .before .before .write-row .ensures)
-
-same-length : tie.Need-same-length Inv-loop μ-loop
-same-length c = search needs
-
-returns : tie.Need-returns Inv-loop μ-loop
-returns c = let at = c .before .before in rows-ended (at .before .before .before .before .before .before .pre) (at .loop .inv) (omega (arith, c .if1 .left))
+more : (c : tie.Then1 Inv-loop μ-loop) → let at = c .before .before in at .loop .y < start at .args .l .fields .h
+more c = omega (arith, c .if1 .taken)
 
 pub write-rows-spec : {M : Type 1} → statement M
 write-rows-spec =
-    tie.close (tie.spec Inv-loop μ-loop mul-read mul-read-2 mul-wrote loop-holds add-end add-stop sub-write-row part-write-row-start part-write-row-end sub-write-row-2 part-write-row-start-2 part-write-row-end-2 write-row-requires add-y loop-less loop-again same-length returns)
+    tie.close
+    (tie.spec
+    Inv-loop
+    μ-loop
+    (λ c. omega (arith, few (c .before .before .before)))
+    (λ c. omega (arith, few (c .before .before .before .before)))
+    (λ c. let known = c .before in omega (arith, few (known .before .before .before .before)))
+    (λ c. written-none _ _ _)
+    (λ c. let at = c .before .before in omega (arith, written-room (start at .pre) (at .loop .inv) (more c), start at .good))
+    (λ c. let at = c .before .before in omega (arith, written-room (start at .pre) (at .loop .inv) (more c), few (start at)))
+    (λ c. omega arith)
+    (λ c. omega arith)
+    (λ c. let at = c .before .before in omega (arith, written-room (start at .pre) (at .loop .inv) (more c)))
+    (λ c. omega arith)
+    (λ c. omega arith)
+    (λ c. let taken = c .before in let at = taken .before .before in omega (arith, written-room (start at .pre) (at .loop .inv) (more taken), at .loop .inv .same))
+    (λ c κs. let taken = c .before .before in let at = taken .before .before in row-fits (start at .pre) (at .loop .inv) (more taken))
+    (λ c. omega (arith, more (turn c)))
+    (λ c. omega (arith, more (turn c)))
+    (λ c. let at = turn c .before .before in written-next (start at .pre) (at .loop .inv) (more (turn c)) _ (c .before .before .write-row .ensures))
+    (λ c. search needs)
+    (λ c. let at = c .before .before in written-all (start at .pre) (at .loop .inv) (omega (arith, c .if1 .left))))

@@ -4,26 +4,17 @@ use Rattle.pixels.proofs.HighFirst.{one-byte}
 use Rattle.writing.proofs.planar.channel.Statement.{statement}
 use Rattle.writing.proofs.planar.channel.Tie as tie
 
-channel2-requires : tie.Need-channel2-requires
-channel2-requires c κs = rw (c .before .if1 .taken) at (c .before .before .before .before .pre .0)
-
-channel1-requires : tie.Need-channel1-requires
-channel1-requires c κs =
-    let pre = c .before .before .before .before .pre in rw (one-byte (pre .1) (c .before .if1 .left)) at (pre .0)
-
-same-length : tie.Need-same-length
-same-length c = search needs
-
-returns : tie.Need-returns
-returns c = rw (c .before .before .before .before .if1 .taken) (c .before .before .channel2 .ensures)
-
-same-length-2 : tie.Need-same-length-2
-same-length-2 c = search needs
-
-returns-2 : tie.Need-returns-2
-returns-2 c =
-    let past = c .before .before .before .before in
-    rw (one-byte (past .before .before .before .pre .1) (past .if1 .left)) (c .before .before .channel1 .ensures)
-
 pub channel-spec : {M : Type 1} → statement M
-channel-spec = tie.close (tie.spec channel2-requires channel1-requires same-length returns same-length-2 returns-2)
+channel-spec =
+    tie.close
+    (tie.spec
+    (λ c κs. let two = c .before in rw (two .if1 .taken) at (two .before .before .before .pre .0))
+    (λ c κs.
+    let other = c .before in
+    let pre = other .before .before .before .pre in rw (one-byte (pre .1) (other .if1 .left)) at (pre .0))
+    (λ c. search needs)
+    (λ c. let called = c .before .before in rw (called .before .before .if1 .taken) (called .channel2 .ensures))
+    (λ c. search needs)
+    (λ c.
+    let called = c .before .before in
+    let other = called .before .before in rw (one-byte (other .before .before .before .pre .1) (other .if1 .left)) (called .channel1 .ensures)))

@@ -1,7 +1,7 @@
 -- `writing::planar::write_apart` meets its contract: the invariant and its laws are in proofs/Planewise.antt. Assumes nothing.
 use borrow.Author.Needs.{needs}
 use native.Mathlib.Omega.{arith}
-use Prim.Native.Nat.{_-_}
+use Prim.Native.Nat.{_-_, _<_}
 use Rattle.writing.proofs.Planewise.{Planewise, planes-none, plane-room, plane-fits, plane-next, planes-ended}
 use Rattle.writing.proofs.planar.write_apart.Statement.{statement}
 use Rattle.writing.proofs.planar.write_apart.Tie as tie
@@ -12,46 +12,30 @@ Inv-loop l picture planes₀ start₀ c₀ planes start c = Planewise l picture 
 abbrev μ-loop : tie.MeasureT-loop
 μ-loop l picture planes₀ start₀ c₀ planes start c = l .fields .ch - c
 
-loop-holds : tie.Need-loop-holds Inv-loop μ-loop
-loop-holds c = planes-none _ _ _
+abbrev start : tie.At-loop Inv-loop μ-loop → tie.Start Inv-loop μ-loop
+start c = c .before .before .before
 
-add-end : tie.Need-add-end Inv-loop μ-loop
-add-end c =
-    let at = c .before .before .before in omega (arith, plane-room (at .before .before .before .pre) (at .loop .inv) (omega (arith, c .before .if1 .taken)))
+-- where a turn begins, and that there is a channel left
+abbrev turn : tie.After-slice-known2 Inv-loop μ-loop → tie.Then1 Inv-loop μ-loop
+turn c = let called = c .before .before in called .before .before .before
 
-sub-write-plane : tie.Need-sub-write-plane Inv-loop μ-loop
-sub-write-plane c = omega arith
-
-part-write-plane-start : tie.Need-part-write-plane-start Inv-loop μ-loop
-part-write-plane-start c = omega arith
-
-part-write-plane-end : tie.Need-part-write-plane-end Inv-loop μ-loop
-part-write-plane-end c =
-    let at = c .before .before .before in
-    omega (arith, plane-room (at .before .before .before .pre) (at .loop .inv) (omega (arith, c .before .if1 .taken)), at .loop .inv .same)
-
-write-plane-requires : tie.Need-write-plane-requires Inv-loop μ-loop
-write-plane-requires c κs =
-    let at = c .before .before .before .before in
-    plane-fits (at .before .before .before .pre) (at .loop .inv) (omega (arith, c .before .before .if1 .taken)) _ (omega (arith, c .before .before .if1 .taken))
-
-add-c : tie.Need-add-c Inv-loop μ-loop
-add-c c = omega (arith, c .before .before .before .before .before .if1 .taken)
-
-loop-less : tie.Need-loop-less Inv-loop μ-loop
-loop-less c = omega (arith, c .before .before .before .before .before .if1 .taken)
-
-loop-again : tie.Need-loop-again Inv-loop μ-loop
-loop-again c =
-    let at = c .before .before .before .before .before .before .before in
-    plane-next (at .before .before .before .pre) (at .loop .inv) (omega (arith, c .before .before .before .before .before .if1 .taken)) _ (c .before .before .write-plane .ensures)
-
-same-length : tie.Need-same-length Inv-loop μ-loop
-same-length c = search needs
-
-returns : tie.Need-returns Inv-loop μ-loop
-returns c = let at = c .before .before in planes-ended (at .before .before .before .pre) (at .loop .inv) (omega (arith, c .if1 .left))
+more : (c : tie.Then1 Inv-loop μ-loop) → let at = c .before .before in at .loop .c < start at .args .l .fields .ch
+more c = omega (arith, c .if1 .taken)
 
 pub write-apart-spec : {M : Type 1} → statement M
 write-apart-spec =
-    tie.close (tie.spec Inv-loop μ-loop loop-holds add-end sub-write-plane part-write-plane-start part-write-plane-end write-plane-requires add-c loop-less loop-again same-length returns)
+    tie.close
+    (tie.spec
+    Inv-loop
+    μ-loop
+    (λ c. planes-none _ _ _)
+    (λ c. let taken = c .before in let at = taken .before .before in omega (arith, plane-room (start at .pre) (at .loop .inv) (more taken)))
+    (λ c. omega arith)
+    (λ c. omega arith)
+    (λ c. let taken = c .before in let at = taken .before .before in omega (arith, plane-room (start at .pre) (at .loop .inv) (more taken), at .loop .inv .same))
+    (λ c κs. let taken = c .before .before in let at = taken .before .before in plane-fits (start at .pre) (at .loop .inv) (more taken) _ (more taken))
+    (λ c. omega (arith, more (turn c)))
+    (λ c. omega (arith, more (turn c)))
+    (λ c. let at = turn c .before .before in plane-next (start at .pre) (at .loop .inv) (more (turn c)) _ (c .before .before .write-plane .ensures))
+    (λ c. search needs)
+    (λ c. let at = c .before .before in planes-ended (start at .pre) (at .loop .inv) (omega (arith, c .if1 .left))))

@@ -15,41 +15,35 @@ fits : (c : tie.Start) → let args = c .args in let l = args .l in ChannelFits 
 fits c =
     let pre = c .pre in channel-fits (c .args .l) (pre .sound) (pre .narrow) (pre .apart) (now (c .args .picture)) (c .args .c) (pre .channel) (pre .all) (now (c .args .out)) (pre .room)
 
-mul-channel : tie.Need-mul-channel
-mul-channel c = omega (arith, fits (c .before .before .before))
+-- where the channel is taken, and where the function begins
+abbrev taken : tie.After-flips-channel → tie.After-channel
+taken c = c .before .before .before
 
-mul-channel-2 : tie.Need-mul-channel-2
-mul-channel-2 c = omega (arith, fits (c .before .before .before .before))
-
-channel-requires : tie.Need-channel-requires
-channel-requires c κs = let start = c .before .before .before .before .before in (fits start, one-or-two (start .args .l) (start .pre .sound) (start .pre .narrow))
-
-flips-channel-requires : tie.Need-flips-channel-requires
-flips-channel-requires c κs = omega (arith, c .before .before .before .before .before .before .before .before .pre .channel)
-
-invert-requires : tie.Need-invert-requires
-invert-requires c κs = search needs
-
-same-length : tie.Need-same-length
-same-length c = search needs
-
-returns : tie.Need-returns
-returns c =
-    let over = c .before .before .before .before .before in
-    let start = over .before .before .before .before .before .before .before .before .before in
-    let pre = start .pre in
-    plane-over (start .args .l) (pre .sound) (pre .narrow) (pre .apart) (now (start .args .picture)) (start .args .c) (pre .channel) (pre .all) (now (start .args .out)) (pre .room) _ (over .before .before .before .channel .ensures) (sym (over .flips-channel .ensures) ∙ c .before .before .before .before .if1 .taken) _ (c .before .before .invert .ensures)
-
-same-length-2 : tie.Need-same-length-2
-same-length-2 c = search needs
-
-returns-2 : tie.Need-returns-2
-returns-2 c =
-    let over = c .before in
-    let start = over .before .before .before .before .before .before .before .before .before in
-    let pre = start .pre in
-    plane-kept (start .args .l) (pre .sound) (pre .narrow) (pre .apart) (now (start .args .picture)) (start .args .c) (pre .channel) (pre .all) (now (start .args .out)) (pre .room) _ (over .before .before .before .channel .ensures) (sym (over .flips-channel .ensures) ∙ c .if1 .left)
+abbrev start : tie.After-channel → tie.Start
+start c = let known = c .before .before in known .before .before .before .before
 
 pub write-plane-spec : {M : Type 1} → statement M
 write-plane-spec =
-    tie.close (tie.spec mul-channel mul-channel-2 channel-requires flips-channel-requires invert-requires same-length returns same-length-2 returns-2)
+    tie.close
+    (tie.spec
+    (λ c. omega (arith, fits (c .before .before .before)))
+    (λ c. omega (arith, fits (c .before .before .before .before)))
+    (λ c κs.
+    let known = c .before in
+    let from = known .before .before .before .before in (fits from, one-or-two (from .args .l) (from .pre .sound) (from .pre .narrow)))
+    (λ c κs. omega (arith, start (c .before .before) .pre .channel))
+    (λ c κs. search needs)
+    (λ c. search needs)
+    (λ c.
+    let called = c .before .before in
+    let arm = called .before .before in
+    let over = arm .before in
+    let from = start (taken over) in
+    let pre = from .pre in
+    plane-over (from .args .l) (pre .sound) (pre .narrow) (pre .apart) (now (from .args .picture)) (from .args .c) (pre .channel) (pre .all) (now (from .args .out)) (pre .room) _ (taken over .channel .ensures) (sym (over .flips-channel .ensures) ∙ arm .if1 .taken) _ (called .invert .ensures))
+    (λ c. search needs)
+    (λ c.
+    let over = c .before in
+    let from = start (taken over) in
+    let pre = from .pre in
+    plane-kept (from .args .l) (pre .sound) (pre .narrow) (pre .apart) (now (from .args .picture)) (from .args .c) (pre .channel) (pre .all) (now (from .args .out)) (pre .room) _ (taken over .channel .ensures) (sym (over .flips-channel .ensures) ∙ c .if1 .left)))
