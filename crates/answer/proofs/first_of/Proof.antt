@@ -8,7 +8,6 @@ pub first-of-spec : {M : Type 1} → statement M
 first-of-spec =
     tie.close
     (tie.spec
-    (λ c. search needs)
-    (λ c. search needs)
+    (λ c. search needs) (λ c. search needs)
     (λ c fs gs p q. step-refused gs p (c .before .one .given .1))
     (λ c fs gs p q. step-on p (c .enum-told .given .1) q))

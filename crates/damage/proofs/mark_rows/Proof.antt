@@ -54,11 +54,9 @@ mark-rows-spec =
     (λ c. marked-rows-none _ _ _)
     (λ c. omega (arith, room c, start (c .before) .good))
     (λ c. omega (arith, free c, start (c .before) .good))
-    (λ c. omega arith)
-    (λ c. omega arith)
+    (λ c. omega arith) (λ c. omega arith)
     (λ c. omega (arith, room c))
-    (λ c. omega arith)
-    (λ c. omega arith)
+    (λ c. omega arith) (λ c. omega arith)
     (λ c. omega (arith, free (c .before), c .before .before .loop .inv .same))
     (λ c κs.
     let in-loop = c .before .before in

@@ -63,14 +63,10 @@ pub marks-spec : {M : Type 1} → statement M
 marks-spec =
     tie.close
     (tie.spec
-    (λ c κs. search needs)
-    (λ c. search needs)
-    (λ c. search needs)
+    (λ c κs. search needs) (λ c. search needs) (λ c. search needs)
     (λ c. let s = start (c .before .before) in good-checked (length (given s)) (geometry s) (checked c) .wide)
     returns
-    (λ c. search needs)
-    (λ c. search needs)
-    (λ c. search needs)
+    (λ c. search needs) (λ c. search needs) (λ c. search needs)
     (λ c κs.
     let fit = c .before in
     let s = start (fit .before .before .before) in

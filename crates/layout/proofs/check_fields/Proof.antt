@@ -15,11 +15,7 @@ pub check-fields-spec : {M : Type 1} → statement M
 check-fields-spec =
     tie.close
     (tie.spec
-    (λ c κs. search needs)
-    (λ c κs. search needs)
-    (λ c κs. search needs)
-    (λ c. search needs)
-    (λ c. search needs)
+    (λ c κs. search needs) (λ c κs. search needs) (λ c κs. search needs) (λ c. search needs) (λ c. search needs)
     (λ c κs. sound-front _ _ (step-sound (steps (c .before .before)) (c .enum-told .given .1)))
     (λ c. step-refused _ (steps (c .before .before .before)) (c .before .k .given .1))
     (λ c. let told = c .before in step-on (steps (told .before .before)) (told .enum-told .given .1) (c .check-size .ensures)))

@@ -11,9 +11,7 @@ pub check-layout-spec : {M : Type 1} → statement M
 check-layout-spec =
     tie.close
     (tie.spec
-    (λ c κs. search needs)
-    (λ c. search needs)
-    (λ c. search needs)
+    (λ c κs. search needs) (λ c. search needs) (λ c. search needs)
     (λ c κs. step-sound (c .before .before .check-fields .ensures) (c .enum-told .given .1))
     (λ c.
     let steps = c .before .before .before in

@@ -19,12 +19,9 @@ pub check-record-spec : {M : Type 1} → statement M
 check-record-spec =
     tie.close
     (tie.spec
-    (λ c κs. search needs)
-    (λ c. search needs)
-    (λ c. search needs)
+    (λ c κs. search needs) (λ c. search needs) (λ c. search needs)
     (λ c κs. step-sound (c .before .before .check-fields .ensures) (c .enum-told .given .1))
-    (λ c κs. search needs)
-    (λ c κs. search needs)
+    (λ c κs. search needs) (λ c κs. search needs)
     (λ c.
     let steps = c .before .before .before in
     let l = steps .before .before .args .l in step-refused (invalid (not (agreement l (completed (l .fields)))) ∷ []) (steps .check-fields .ensures) (c .before .k .given .1) .passed)

@@ -19,9 +19,7 @@ pub index-spec : {M : Type 1} → statement M
 index-spec =
     tie.close
     (tie.spec
-    (λ c κs. search needs)
-    (λ c. search needs)
-    (λ c. search needs)
+    (λ c κs. search needs) (λ c. search needs) (λ c. search needs)
     (λ c.
     let told = c .before .before in
     let l = start told .args .l in

@@ -50,16 +50,9 @@ pub check-palette-spec : {M : Type 1} → statement M
 check-palette-spec =
     tie.close
     (tie.spec
-    (λ c κs. search needs)
-    (λ c κs. search needs)
-    (λ c κs. search needs)
+    (λ c κs. search needs) (λ c κs. search needs) (λ c κs. search needs)
     (λ c. omega (arith, c .colours .ensures, colours-few (c .before .before .before .args .slots)))
-    (λ c κs. search needs)
-    (λ c κs. search needs)
-    (λ c κs. search needs)
-    (λ c κs. search needs)
-    (λ c. search needs)
-    (λ c. search needs)
+    (λ c κs. search needs) (λ c κs. search needs) (λ c κs. search needs) (λ c κs. search needs) (λ c. search needs) (λ c. search needs)
     (λ c. omega (arith, few c))
     (λ c. omega (arith, few c))
     (λ c. omega (arith, few c))

@@ -38,11 +38,7 @@ pack-whole-spec =
     Inv-loop
     μ-loop
     (λ c. (omega arith, refl, refl))
-    (λ c. search needs)
-    (λ c κs. search needs)
-    (λ c. omega arith)
-    (λ c. search needs)
-    (λ c. search needs)
+    (λ c. search needs) (λ c κs. search needs) (λ c. omega arith) (λ c. search needs) (λ c. search needs)
     loop-again
     (λ c. search needs)
     returns)

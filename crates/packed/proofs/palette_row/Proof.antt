@@ -35,10 +35,7 @@ pub palette-row-spec : {M : Type 1} → statement M
 palette-row-spec =
     tie.close
     (tie.spec
-    (λ c κs. search needs)
-    (λ c. search needs)
-    (λ c. search needs)
-    (λ c κs. search needs)
+    (λ c κs. search needs) (λ c. search needs) (λ c. search needs) (λ c κs. search needs)
     (λ c. omega (arith, fits c .map, colours-few (start (c .before .before .before) .args .slots)))
     (λ c κs. fits (c .before))
     (λ c. let checked = c .before .before .before in refuses (faults (start checked)) tt _ _ (step-first {fs = faults (start checked)} (checked .check-palette .ensures) (c .before .k .given .1)))

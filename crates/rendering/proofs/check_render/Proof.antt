@@ -16,9 +16,7 @@ pub check-render-spec : {M : Type 1} → statement M
 check-render-spec =
     tie.close
     (tie.spec
-    (λ c κs. search needs)
-    (λ c. search needs)
-    (λ c. search needs)
+    (λ c κs. search needs) (λ c. search needs) (λ c. search needs)
     (λ c κs. let asked = c .before .before in record-colours (asked .before .args .l) (step-sound (recorded asked) (c .enum-told .given .1)))
     (λ c.
     let asked = c .before .before .before in

@@ -27,12 +27,9 @@ packed-row-spec =
     (tie.spec
     (λ c. record { fits = omega (arith, inside (c .before .before .before .before)) })
     (λ c. let known = c .before in omega (arith, inside (known .before .before .before .before)))
-    (λ c. search needs)
-    (λ c. search needs)
+    (λ c. search needs) (λ c. search needs)
     (λ c. let known = c .before in omega (arith, inside (known .before .before .before .before)))
-    (λ c κs. search needs)
-    (λ c κs. search needs)
-    (λ c. search needs)
+    (λ c κs. search needs) (λ c κs. search needs) (λ c. search needs)
     (λ c.
     let called = c .before .before in
     let arm = called .before .before in

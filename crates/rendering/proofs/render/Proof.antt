@@ -20,9 +20,7 @@ pub render-spec : {M : Type 1} → statement M
 render-spec =
     tie.close
     (tie.spec
-    (λ c κs. search needs)
-    (λ c. search needs)
-    (λ c. search needs)
+    (λ c κs. search needs) (λ c. search needs) (λ c. search needs)
     (λ c κs.
     let told = c .before in
     let args = start (told .before .before) .args in

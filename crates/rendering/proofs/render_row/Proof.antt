@@ -21,11 +21,7 @@ render-row-spec =
     (λ c κs.
     let arm = c .before in
     let bare = arm .before .before in plain-row-of (start bare .pre) (rw (bare .if1 .left, ne-eqb _ _ (arm .if2 .left))))
-    (λ c. search needs)
-    (λ c. search needs)
-    (λ c. search needs)
-    (λ c. search needs)
-    (λ c. search needs)
+    (λ c. search needs) (λ c. search needs) (λ c. search needs) (λ c. search needs) (λ c. search needs)
     (λ c.
     let called = c .before .before in
     let arm = called .before .before in

@@ -33,8 +33,7 @@ render-rows-spec =
     (λ c. let known = c .before in record { fits = omega (arith, row-small (known .before .before .before .before .pre) .1) })
     (λ c. rendered-none _ _ _ _)
     (λ c. let from = start (c .before .before) in omega (arith, room c, from .pre .room, from .good))
-    (λ c. omega arith)
-    (λ c. omega arith)
+    (λ c. omega arith) (λ c. omega arith)
     (λ c. let at = c .before .before in omega (arith, room c, at .loop .inv .same, start at .pre .room))
     (λ c κs.
     let taken = c .before in

@@ -34,11 +34,9 @@ predicted-rows-spec =
     μ-loop
     (λ c. transformed-none _ _ _ _ _ _ _)
     (λ c. omega (arith, row-room (start c .pre) (c .before .loop .inv) (more c), start c .good))
-    (λ c. omega arith)
-    (λ c. omega arith)
+    (λ c. omega arith) (λ c. omega arith)
     (λ c. row-room (start c .pre) (c .before .loop .inv) (more c))
-    (λ c. omega arith)
-    (λ c. omega arith)
+    (λ c. omega arith) (λ c. omega arith)
     (λ c. let now-in = c .before in row-free (start now-in .pre) (now-in .before .loop .inv) (more now-in))
     (λ c κs. let now-in = c .before .before in part-served (start now-in .pre) (now-in .before .loop .inv) (more now-in))
     (λ c. let now-in = turn (c .before .before) in omega (arith, row-some (start now-in .pre) (now-in .before .loop .inv), more now-in))

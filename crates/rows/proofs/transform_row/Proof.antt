@@ -25,9 +25,7 @@ pub transform-row-spec : {M : Type 1} → statement M
 transform-row-spec =
     tie.close
     (tie.spec
-    (λ c κs. search needs)
-    (λ c. search needs)
-    (λ c. search needs)
+    (λ c κs. search needs) (λ c. search needs) (λ c. search needs)
     (λ c κs. let told = c .before in row-served _ _ _ _ (strip-served _ _ _ (sound told)))
     (λ c.
     let call = c .before .before .before in

@@ -37,9 +37,7 @@ pub transform-rows-spec : {M : Type 1} → statement M
 transform-rows-spec =
     tie.close
     (tie.spec
-    (λ c κs. search needs)
-    (λ c. search needs)
-    (λ c. search needs)
+    (λ c κs. search needs) (λ c. search needs) (λ c. search needs)
     (λ c κs. served-here (c .before .before))
     (λ c κs. search needs)
     (λ c.

@@ -18,10 +18,7 @@ pub transform-words-spec : {M : Type 1} → statement M
 transform-words-spec =
     tie.close
     (tie.spec
-    (λ c κs. search needs)
-    (λ c κs. search needs)
-    (λ c κs. search needs)
-    (λ c. search needs)
+    (λ c κs. search needs) (λ c κs. search needs) (λ c κs. search needs) (λ c. search needs)
     (λ c. let gone = c .before .before in let arm = gone .before .before in rw (arm .before .if1 .taken, arm .if2 .taken) (gone .predict-words .ensures))
     (λ c. search needs)
     (λ c. let gone = c .before .before in let arm = gone .before .before in rw (arm .before .if1 .taken, arm .if2 .left) (gone .undo-words .ensures))

@@ -72,10 +72,7 @@ reorder-spec =
     let past = c .before in
     let args = start2 past .args in
     refuses (faults (start2 past)) tt _ _ (past2 past .first (here (lt-ltb (length (now (args .out))) (length (now (args .raw))) (omega (arith, c .if3 .taken))))))
-    (λ c κs. search needs)
-    (λ c κs. search needs)
-    (λ c κs. search needs)
-    (λ c. search needs)
+    (λ c κs. search needs) (λ c κs. search needs) (λ c κs. search needs) (λ c. search needs)
     (λ c.
     let gone = c .before .before in
     let arm = gone .before .before in

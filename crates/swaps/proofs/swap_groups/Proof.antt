@@ -28,8 +28,7 @@ swap-groups-spec =
     let fits = start at .pre in
     let there = room fits (at .loop .inv) (c .before .loop-test .taken) in
     (fits .some, fits .few, record { there = there; here = omega (arith, there, fits .room, at .loop .inv .same) }))
-    (λ c. omega arith)
-    (λ c. omega arith)
+    (λ c. omega arith) (λ c. omega arith)
     (λ c.
     let swapped = c .before .before in
     let in-loop = swapped .before .before in

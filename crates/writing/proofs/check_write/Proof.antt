@@ -16,9 +16,7 @@ pub check-write-spec : {M : Type 1} → statement M
 check-write-spec =
     tie.close
     (tie.spec
-    (λ c κs. search needs)
-    (λ c. search needs)
-    (λ c. search needs)
+    (λ c κs. search needs) (λ c. search needs) (λ c. search needs)
     (λ c κs. step-sound (recorded (c .before .before)) (c .enum-told .given .1))
     (λ c.
     let asked = c .before .before .before in

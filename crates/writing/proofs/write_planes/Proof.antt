@@ -20,9 +20,7 @@ pub write-planes-spec : {M : Type 1} → statement M
 write-planes-spec =
     tie.close
     (tie.spec
-    (λ c κs. search needs)
-    (λ c. search needs)
-    (λ c. search needs)
+    (λ c κs. search needs) (λ c. search needs) (λ c. search needs)
     (λ c κs.
     let told = c .before in
     let args = start (told .before .before) .args in write-served (args .l) (now (args .picture)) (now (args .planes)) (sound told))

@@ -13,8 +13,7 @@ asked-spec =
     (tie.spec
     (λ c κs. search needs)
     (λ c. let flag = sym (c .before .flagged .ensures) ∙ c .if1 .taken in record { served = λ e. clash flag e; unserved = λ e. refl })
-    (λ c κs. search needs)
-    (λ c κs. search needs)
+    (λ c κs. search needs) (λ c κs. search needs)
     (λ c.
     let first = c .before .before in
     let flag = sym (first .before .flagged .ensures) ∙ first .if1 .left in

@@ -12,11 +12,7 @@ pub hamrisk-check-layout-spec : {M : Type 1} → statement M
 hamrisk-check-layout-spec =
     tie.close
     (tie.spec
-    (λ c κs. search needs)
-    (λ c. search needs)
-    (λ c κs. search needs)
-    (λ c. search needs)
-    (λ c κs. search needs)
+    (λ c κs. search needs) (λ c. search needs) (λ c κs. search needs) (λ c. search needs) (λ c κs. search needs)
     (λ c.
     let known = c .before .before in
     let called = known .before .before in

@@ -29,7 +29,6 @@ first-damaged-spec =
     (λ c. c .sound-blocks .ensures)
     (λ c. search needs)
     returns
-    (λ c. search needs)
-    (λ c. search needs)
+    (λ c. search needs) (λ c. search needs)
     (λ c. (below-more _ _ (c .before .before .before .loop .inv .0) (c .if1 .left), search needs))
     (λ c. let at = c .before .loop in record { inside = at .inv .1; sound = at .inv .0; hurt = λ l. absurd (omega (arith, c .loop-test .left)) }))

@@ -33,9 +33,6 @@ sound-spec =
     Inv-loop
     μ-loop
     (λ c. (omega arith, λ k h. absurd (omega arith)))
-    (λ c. search needs)
-    (λ c κs. search needs)
-    (λ c. search needs)
-    (λ c. search needs)
+    (λ c. search needs) (λ c κs. search needs) (λ c. search needs) (λ c. search needs)
     loop-again
     (λ c e k h. omega (arith, c .before .loop .inv .1 k (omega arith), eqb-true (c .before .loop .most) 0 e)))

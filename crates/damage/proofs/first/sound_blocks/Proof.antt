@@ -28,11 +28,7 @@ sound-blocks-spec =
     Inv-loop
     μ-loop
     (λ c. (λ k h. absurd (omega arith), omega arith))
-    (λ c κs. search needs)
-    (λ c. search needs)
-    (λ c. search needs)
-    (λ c. search needs)
-    (λ c κs. search needs)
+    (λ c κs. search needs) (λ c. search needs) (λ c. search needs) (λ c. search needs) (λ c κs. search needs)
     (λ c. let after = c .before .before .before in after .before .before .loop .inv)
     (λ c. let after = c .before .before .before in omega (arith, after .block-end .ensures .on, after .before .loop-test .taken))
     loop-again

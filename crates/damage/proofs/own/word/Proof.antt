@@ -14,12 +14,7 @@ pub word-spec : {M : Type 1} → statement M
 word-spec =
     tie.close
     (tie.spec
-    (λ c κs. search needs)
-    (λ c. search needs)
-    (λ c κs. search needs)
-    (λ c. search needs)
-    (λ c κs. search needs)
-    (λ c. search needs)
+    (λ c κs. search needs) (λ c. search needs) (λ c κs. search needs) (λ c. search needs) (λ c κs. search needs) (λ c. search needs)
     (λ c κs. omega (arith, eight c))
     (λ c. rw (c .before .if1 .taken) (c .word1 .ensures))
     (λ c. rw (c .before .if2 .taken) (c .word2 .ensures))

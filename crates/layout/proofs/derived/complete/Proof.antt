@@ -23,8 +23,7 @@ complete-spec =
     (λ c. known (c .before) .wide)
     (λ c. up-to-eight (known (c .before .before) .slots) .0)
     (λ c. let begun = c .before .before in fits-below tt (encoded-side (begun .args .f) (known begun)))
-    (λ c κs. search needs)
-    (λ c κs. search needs)
+    (λ c κs. search needs) (λ c κs. search needs)
     (λ c. let a = known (start c) in area-fits (encoded-side _ a) (a .height))
     (λ c.
     let f = start c .args .f in

@@ -65,8 +65,7 @@ plain-index-spec =
     (λ c κs.
     let first = c .before in
     let start = first .before .before in record { some = some start; limited = rw (first .high-first .ensures) (omega (arith, sample-limited start)) })
-    (λ c κs. search needs)
-    (λ c. search needs)
+    (λ c κs. search needs) (λ c. search needs)
     (λ c. let placed = c .before .before .before .before in some (placed .before .before .before .before .before))
     (λ c.
     let at = c .before .before .before in

@@ -50,8 +50,7 @@ paint-of-spec =
     (λ c. omega (arith, among c))
     (λ c. search needs)
     (λ c κs. let indexed = c .before in (omega (arith, among indexed), omega (arith, indexed .before .before .loop .inv .same, indexed .before .loop-test .taken)))
-    (λ c. search needs)
-    (λ c. search needs)
+    (λ c. search needs) (λ c. search needs)
     (λ c.
     let painted = c .before .before in
     let indexed = painted .before .before in

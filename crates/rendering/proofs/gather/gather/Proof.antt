@@ -33,11 +33,9 @@ gather-spec =
     (λ c. record { fits = omega (arith, small (c .before .before .before)) })
     (λ c κs. let arm = c .before in planes-fit (arm .before .before .before .before .pre) (arm .if1 .taken))
     (λ c. omega (arith, inside c, start c .good))
-    (λ c. search needs)
-    (λ c. search needs)
+    (λ c. search needs) (λ c. search needs)
     (λ c. inside c)
-    (λ c κs. search needs)
-    (λ c. search needs)
+    (λ c κs. search needs) (λ c. search needs)
     (λ c.
     let called = c .before .before in
     let arm = called .before .before in planes-gathered (arm .before .before .before .before .pre) (arm .if1 .taken) _ (called .planes .ensures))

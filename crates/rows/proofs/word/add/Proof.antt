@@ -14,10 +14,7 @@ pub add-spec : {M : Type 1} → statement M
 add-spec =
     tie.close
     (tie.spec
-    (λ c κs. search needs)
-    (λ c κs. search needs)
-    (λ c κs. search needs)
-    (λ c κs. search needs)
+    (λ c κs. search needs) (λ c κs. search needs) (λ c κs. search needs) (λ c κs. search needs)
     (λ c. rw (c .before .if1 .taken) (omega (arith, c .wrapping-add-u64 .ensures)))
     (λ c. rw (c .before .if2 .taken) (omega (arith, c .wrapping-add-u642 .ensures)))
     (λ c. rw (c .before .if3 .taken) (omega (arith, c .wrapping-add-u643 .ensures)))

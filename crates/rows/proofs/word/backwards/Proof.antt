@@ -15,13 +15,7 @@ pub backwards-spec : {M : Type 1} → statement M
 backwards-spec =
     tie.close
     (tie.spec
-    (λ c. search needs)
-    (λ c κs. search needs)
-    (λ c. search needs)
-    (λ c. search needs)
-    (λ c κs. search needs)
-    (λ c. search needs)
-    (λ c κs. search needs)
+    (λ c. search needs) (λ c κs. search needs) (λ c. search needs) (λ c. search needs) (λ c κs. search needs) (λ c. search needs) (λ c κs. search needs)
     (λ c. rw (c .if1 .taken) (omega arith))
     (λ c. rw (c .before .if2 .taken) (c .backwards2 .ensures ∙ backwards-rest 2 (c .before .before .before .args .v)))
     (λ c. rw (c .before .if3 .taken) (c .backwards4 .ensures ∙ backwards-rest 4 (c .before .before .before .before .args .v)))

@@ -14,8 +14,7 @@ pub get-spec : {M : Type 1} → statement M
 get-spec =
     tie.close
     (tie.spec
-    (λ c κs. search needs)
-    (λ c κs. search needs)
+    (λ c κs. search needs) (λ c κs. search needs)
     (λ c. let args = c .before .before .before .args in word-straight (now (args .s)) (args .at) (args .width) (args .le) _ (c .if1 .taken) (c .before .little .ensures))
     (λ c.
     let read = c .before .before in

@@ -19,10 +19,7 @@ little-spec =
     (tie.spec
     (λ c. search needs)
     (λ c. omega (arith, c .shared-slice-known2 .given (c .before .before .before .args .at)))
-    (λ c κs. search needs)
-    (λ c. search needs)
-    (λ c κs. search needs)
-    (λ c. search needs)
+    (λ c κs. search needs) (λ c. search needs) (λ c κs. search needs) (λ c. search needs)
     (λ c κs. omega (arith, eight c))
     (λ c. let args = c .before .before .before .args in rw (c .before .if1 .taken) (sym (word-one (now (args .s)) (args .at) true)))
     (λ c. rw (c .before .if2 .taken) (c .little2 .ensures))

@@ -9,10 +9,7 @@ pub put-spec : {M : Type 1} → statement M
 put-spec =
     tie.close
     (tie.spec
-    (λ c κs. search needs)
-    (λ c κs. search needs)
-    (λ c κs. search needs)
-    (λ c. search needs)
+    (λ c κs. search needs) (λ c κs. search needs) (λ c κs. search needs) (λ c. search needs)
     (λ c. let stored = c .before .before in rw (stored .before .before .if1 .taken) (stored .store .ensures))
     (λ c. search needs)
     (λ c.

@@ -14,10 +14,7 @@ pub sub-spec : {M : Type 1} → statement M
 sub-spec =
     tie.close
     (tie.spec
-    (λ c κs. search needs)
-    (λ c κs. search needs)
-    (λ c κs. search needs)
-    (λ c κs. search needs)
+    (λ c κs. search needs) (λ c κs. search needs) (λ c κs. search needs) (λ c κs. search needs)
     (λ c. let small = rw (c .before .if1 .taken) at (c .before .before .pre .1) in rw (c .before .if1 .taken) (omega (arith, c .wrapping-sub-u64 .ensures)))
     (λ c. let small = rw (c .before .if2 .taken) at (c .before .before .before .pre .1) in rw (c .before .if2 .taken) (omega (arith, c .wrapping-sub-u642 .ensures)))
     (λ c. let small = rw (c .before .if3 .taken) at (c .before .before .before .before .pre .1) in rw (c .before .if3 .taken) (omega (arith, c .wrapping-sub-u643 .ensures)))

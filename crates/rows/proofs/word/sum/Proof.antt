@@ -10,6 +10,5 @@ pub sum-spec : {M : Type 1} → statement M
 sum-spec =
     tie.close
     (tie.spec
-    (λ c κs. search needs)
-    (λ c κs. search needs)
+    (λ c κs. search needs) (λ c κs. search needs)
     (λ c. let args = c .before .before .before .args in c .add .ensures ∙ ap (λ (x : ℕ). plus (args .width) x (args .so-far)) (c .before .get .ensures)))

@@ -41,14 +41,12 @@ two-levels-spec =
     (λ c. omega (arith, inside (c .before), start (c .before) .pre))
     (λ c κs. search needs)
     (λ c. let turn = c .before .before .before in omega (arith, inside turn, start turn .pre))
-    (λ c. omega arith)
-    (λ c. omega arith)
+    (λ c. omega arith) (λ c. omega arith)
     (λ c.
     let looked = c .before in
     let turn = looked .before .before in
     level-passed (turn .before .loop .inv) (turn .loop-test .taken) (sym (looked .is-level .ensures) ∙ not-false _ (c .if1 .left)))
-    (λ c. omega arith)
-    (λ c. omega arith)
+    (λ c. omega arith) (λ c. omega arith)
     (λ c. (row-passed (c .before .loop .inv) (c .loop-test .left), omega arith))
     (λ c. rows-passed (c .before .rows .inv .0) _ (omega (arith, c .before .rows .inv .1, c .rows-test .left)))
     (λ c.

@@ -10,9 +10,7 @@ pub flip-row-spec : {M : Type 1} → statement M
 flip-row-spec =
     tie.close
     (tie.spec
-    (λ c κs. search needs)
-    (λ c κs. search needs)
-    (λ c. search needs)
+    (λ c κs. search needs) (λ c κs. search needs) (λ c. search needs)
     (λ c.
     let called = c .before .before in
     let arm = called .before .before in

@@ -30,8 +30,7 @@ write-apart-spec =
     μ-loop
     (λ c. planes-none _ _ _)
     (λ c. let taken = c .before in let at = taken .before .before in omega (arith, plane-room (start at .pre) (at .loop .inv) (more taken)))
-    (λ c. omega arith)
-    (λ c. omega arith)
+    (λ c. omega arith) (λ c. omega arith)
     (λ c. let taken = c .before in let at = taken .before .before in omega (arith, plane-room (start at .pre) (at .loop .inv) (more taken), at .loop .inv .same))
     (λ c κs. let taken = c .before .before in let at = taken .before .before in plane-fits (start at .pre) (at .loop .inv) (more taken) _ (more taken))
     (λ c. omega (arith, more (turn c)))

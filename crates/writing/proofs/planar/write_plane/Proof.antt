@@ -32,8 +32,7 @@ write-plane-spec =
     let known = c .before in
     let from = known .before .before .before .before in (fits from, one-or-two (from .args .l) (from .pre .sound) (from .pre .narrow)))
     (λ c κs. omega (arith, start (c .before .before) .pre .channel))
-    (λ c κs. search needs)
-    (λ c. search needs)
+    (λ c κs. search needs) (λ c. search needs)
     (λ c.
     let called = c .before .before in
     let arm = called .before .before in
