@@ -117,13 +117,33 @@ fn planes(
     }
 }
 
+// The same, with a width of one byte said outright: a loop of its own.
+fn known_planes(
+    raw: &[u8],
+    plane_len: usize,
+    from: usize,
+    channels: usize,
+    bytes: usize,
+    le: bool,
+    out: &mut [u8],
+)
+    requires { ⌜ PlanesFit (now raw) «plane_len» from channels bytes (now out) ⌝ }
+    ensures { λ r. ⌜ PlanesInto (now (raw .entry)) «plane_len» from channels bytes le (now (out .entry)) (now (out .exit)) ⌝ }
+{
+    if bytes == 1 {
+        planes(raw, plane_len, from, channels, 1, le, out);
+    } else {
+        planes(raw, plane_len, from, channels, bytes, le, out);
+    }
+}
+
 pub(crate) fn gather(l: RasterLayout, raw: &[u8], y: usize, out: &mut [u8])
     requires { ⌜ PlainRowAsked l (now raw) y (now out) ⌝ }
     ensures { λ r. ⌜ Gathered l (now (raw .entry)) y (now (out .entry)) (now (out .exit)) ⌝ }
 {
     let from = y * (l.encoded_width * l.plane_channels);
     if l.fields.separate {
-        planes(
+        known_planes(
             raw,
             l.plane_len,
             from,

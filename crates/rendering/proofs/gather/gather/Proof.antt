@@ -38,7 +38,7 @@ gather-spec =
     (λ c κs. search needs) (λ c. search needs)
     (λ c.
     let called = c .before .before in
-    let arm = called .before .before in planes-gathered (arm .before .before .before .before .pre) (arm .if1 .taken) _ (called .planes .ensures))
+    let arm = called .before .before in planes-gathered (arm .before .before .before .before .pre) (arm .if1 .taken) _ (called .known-planes .ensures))
     (λ c. search needs)
     (λ c.
     let called = c .before .before in
