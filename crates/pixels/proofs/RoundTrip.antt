@@ -68,16 +68,35 @@ picture-front : (l : RasterLayout) (file raw old out : List ℕ) → Rendered l 
 picture-front l file raw old out r = ap (λ (n : ℕ). take n out) (sym (length-table (l .«output_len») (converted l file raw))) ∙ writes tt out r
 
 module _ (l : RasterLayout) (file : List ℕ) where
-  pub written-then-rendered : (picture old planes old-out out : List ℕ) → Bytes picture → Written l picture old Done-is.Done planes → Rendered l file planes old-out Done-is.Done out → take (l .«output_len») out ≡ take (l .«output_len») picture
-  written-then-rendered picture old planes old-out out bytes w r =
-      let s = record-sound l picture old planes w in
-      let wrote : (i : ℕ) → i < l .«scratch_len» → getD planes i 0 ≡ getD (table (l .«scratch_len») (written l picture)) i 0 =
-      λ i h. front-at (l .«scratch_len») (written l picture) planes (planes-front l picture old planes w) i h ∙ sym (table-at (l .«scratch_len») (written l picture) i h) in
-      picture-front l file planes old-out out r
-      ∙ table-same (l .«output_len») _ _ (λ k h.
-      converted-same l s planes (table (l .«scratch_len») (written l picture)) wrote file k h
-      ∙ render-written l s (no-palette l picture old planes w) (not-multiplied l picture old planes w) file picture k h bytes (two-levels l picture old planes w))
-      ∙ own-front (l .«output_len») picture (picture-long l picture old planes w)
+  -- what writing has shown is all that rendering asks of the planes
+  written-renderable : (picture old planes old-out : List ℕ) → Written l picture old Done-is.Done planes → l .«output_len» ≤ length old-out → Sound (renderFaults l file planes old-out)
+  written-renderable picture old planes old-out w room =
+      let shown = planes-sound l picture old planes w in
+      let fits = ltb-false (length old) (l .«scratch_len») (sound-here (sound-rest (sound-rest (sound-rest (sound-rest shown))))) in
+      let same = stays (done tt) planes (omega (arith, length-table (l .«scratch_len») (written l picture))) w in
+      sound-more (record-sound l picture old planes w)
+      (next (sound-here (sound-rest shown))
+      (next (rw (no-palette l picture old planes w))
+      (next (le-ltb (length planes) (l .«scratch_len») (omega arith)) (next (le-ltb (length old-out) (l .«output_len») room) none))))
+
+  -- so rendering what was written succeeds, where there is room, and gives the picture back
+  pub written-then-rendered : (picture old planes old-out out : List ℕ) (answer : Done) → Bytes picture → l .«output_len» ≤ length old-out → Written l picture old Done-is.Done planes → Rendered l file planes old-out answer out → (answer ≡ Done-is.Done) × (take (l .«output_len») out ≡ take (l .«output_len») picture)
+  written-then-rendered picture old planes old-out out answer bytes room w r = (done-here, picture-is)
+    where
+      done-here : answer ≡ Done-is.Done
+      done-here = done-once answer Done-is.Done (r .answers ∙ sound-done tt (written-renderable picture old planes old-out w room))
+
+      wrote : (i : ℕ) → i < l .«scratch_len» → getD planes i 0 ≡ getD (table (l .«scratch_len») (written l picture)) i 0
+      wrote i h = front-at (l .«scratch_len») (written l picture) planes (planes-front l picture old planes w) i h ∙ sym (table-at (l .«scratch_len») (written l picture) i h)
+
+      picture-is : take (l .«output_len») out ≡ take (l .«output_len») picture
+      picture-is =
+          let s = record-sound l picture old planes w in
+          picture-front l file planes old-out out (subst (λ (a : Done). Rendered l file planes old-out a out) done-here r)
+          ∙ table-same (l .«output_len») _ _ (λ k h.
+          converted-same l s planes (table (l .«scratch_len») (written l picture)) wrote file k h
+          ∙ render-written l s (no-palette l picture old planes w) (not-multiplied l picture old planes w) file picture k h bytes (two-levels l picture old planes w))
+          ∙ own-front (l .«output_len») picture (picture-long l picture old planes w)
 
   -- what rendering has shown of a picture is all that writing asks of it, the look for two levels included
   module _ (raw old out : List ℕ) (r : Rendered l file raw old Done-is.Done out) where

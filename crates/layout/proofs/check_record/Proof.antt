@@ -9,11 +9,14 @@ use Rattle.layout.specs.Layout.{completed, agreement}
 use Rattle.layout.proofs.check_record.Statement.{statement}
 use Rattle.layout.proofs.check_record.Tie as tie
 
+abbrev start : tie.After-enum-told → tie.Start
+start c = c .before .before .before .before
+
 -- the record is compared with the one that the check answers
-compared : (c : tie.After-agrees) → let l = c .before .before .before .before .before .before .args .l in c .agrees .result ≡ agreement l (completed (l .fields))
+compared : (c : tie.After-agrees) → let l = start (c .before .before) .args .l in c .agrees .result ≡ agreement l (completed (l .fields))
 compared c =
     let completed = c .before in
-    let l = completed .before .before .before .before .before .args .l in c .agrees .ensures ∙ ap (agreement l) (completed .complete .ensures)
+    let l = start (completed .before) .args .l in c .agrees .ensures ∙ ap (agreement l) (completed .complete .ensures)
 
 pub check-record-spec : {M : Type 1} → statement M
 check-record-spec =

@@ -30,8 +30,12 @@ sample-limited c =
     let l = c .args .l in
     omega (arith, sample-inside l (c .pre .0 .sound) (c .args .k) (c .pre .1) (c .pre .0 .within), scratch-limited l (c .pre .0 .sound), le-mul-of-pos-right {m = l .fields .bytes} (sample c + 1) (some c), mul-comm (sample c + 1) (l .fields .bytes))
 
+-- where the place is asked for
+abbrev asking : tie.After-byte-place → tie.Start
+asking c = c .before .before .before .before .before
+
 -- its place is there
-place-is : (c : tie.After-byte-place) → let start = c .before .before .before .before .before in placeOutcome (c .byte-place .result) ≡ done (sample start * start .args .l .fields .bytes)
+place-is : (c : tie.After-byte-place) → let start = asking c in placeOutcome (c .byte-place .result) ≡ done (sample start * start .args .l .fields .bytes)
 place-is c =
     let sampled = c .before in
     let first = sampled .before .before in
@@ -66,11 +70,11 @@ plain-index-spec =
     let first = c .before in
     let start = first .before .before in record { some = some start; limited = rw (first .high-first .ensures) (omega (arith, sample-limited start)) })
     (λ c κs. search needs) (λ c. search needs)
-    (λ c. let placed = c .before .before .before .before in some (placed .before .before .before .before .before))
+    (λ c. some (asking (c .before .before .before .before)))
     (λ c.
     let at = c .before .before .before in
     let placed = at .before .before in
-    let start = placed .before .before .before .before .before in
+    let start = asking placed in
     fits-below {n = byteLimit} tt (omega (arith, answered at, plain-below (start .args .l) (start .pre .0 .sound) (start .args .k) (start .pre .1) (start .pre .0 .within), scratch-limited (start .args .l) (start .pre .0 .sound))))
     (λ c. search needs)
     (λ c. answered (c .before .before .before))
