@@ -65,6 +65,7 @@ fn sum_row<T: Word>(raw: &[u8], channels: usize, le: bool, out: &mut [u8], out_l
         return;
     }
     match channels {
+        2 => sum_pixels::<T, 2>(raw, le, out, out_le),
         3 => sum_pixels::<T, 3>(raw, le, out, out_le),
         4 => sum_pixels::<T, 4>(raw, le, out, out_le),
         _ => {

@@ -154,10 +154,14 @@ fn moved(run: &Run, size: usize) {
 type Call = fn(&[u8], Strip, Coding, &mut [u8]) -> Result<(), hamrisk::Refusal>;
 type Hand = fn(&[u8], Strip, Coding, &mut [u8]);
 
-/// Rows of 1024 pixels.
+/// Rows of 1024 pixels, and short ones.
 fn strips(run: &Run, size: usize) {
+    if run.has("convert") {
+        let strip = Strip { row_bytes: 64, channels: 1, width: 2 };
+        samples(run, size, strip, "convert, rows of 64 bytes", hamrisk::convert, by_hand::convert);
+    }
     for width in [1, 2, 4, 8] {
-        for channels in [1, 3, 4] {
+        for channels in [1, 2, 3, 4] {
             let strip = Strip { row_bytes: 1024 * channels * width, channels, width };
             if run.has("convert") {
                 samples(run, size, strip, "convert", hamrisk::convert, by_hand::convert);
@@ -203,16 +207,18 @@ fn samples(run: &Run, size: usize, strip: Strip, name: &str, ours: Call, hand: H
 
 fn marks(run: &Run, size: usize, strip: Strip) {
     let n = size / strip.row_bytes * strip.row_bytes;
-    let damage: Vec<u8> = noise(n, 5).iter().map(|&b| (b == 7) as u8).collect();
+    let scattered: Vec<u8> = noise(n, 5).iter().map(|&b| (b == 7) as u8).collect();
+    let lost: Vec<u8> = (0..n).map(|k| (k % 65_536 >= 64_000) as u8).collect();
     let (mut a, mut b) = (vec![0; n / strip.width], vec![0; n / strip.width]);
-    for predict in [false, true] {
+    for (predict, packet, damage) in [(false, "", &scattered), (true, "", &scattered), (true, ", a lost packet", &lost)]
+    {
         let (mut x, mut y) = (0, 0);
         let times = both(
-            || x = hamrisk::marks(black_box(&damage), strip, predict, &mut a).unwrap(),
-            || y = by_hand::marks(black_box(&damage), strip, predict, black_box(&mut b)),
+            || x = hamrisk::marks(black_box(damage), strip, predict, &mut a).unwrap(),
+            || y = by_hand::marks(black_box(damage), strip, predict, black_box(&mut b)),
         );
         assert!(a == b && x == y, "marks");
-        run.line(&format!("marks, {}", geometry(strip, predict, false)), size, n, times, None);
+        run.line(&format!("marks, {}{packet}", geometry(strip, predict, false)), size, n, times, None);
     }
 }
 
