@@ -25,7 +25,7 @@ use Rattle.pixels.specs.Planes.{Written}
 use Rattle.rendering.proofs.Determined.{render-determined}
 use Rattle.writing.proofs.Determined.{write-planes-determined}
 use Rattle.capi.specs.Told.{status, lent, derivedOutcome, Told, Lent}
-use Rattle.capi.specs.OnLayouts.{fieldsOf, flagged, OnLayout, Refused}
+use Rattle.capi.specs.OnLayouts.{fieldsOf, flagged, OnLayout, RefusedUnserved}
 
 -- where two allowed answers are the same, and E follows besides, so are the numbers and what is lent back
 module _ {D A E : Type 0} {outcome : D → Outcome A} {P Q : D → Type 0} {r s : ℕ} (one : (a b : D) → P a → Q b → (a ≡ b) × E) where
@@ -71,23 +71,23 @@ module _ (r s : ℕ) where
   hamrisk-commit-determined source old x y = told-once (λ a b. commit-uninit-determined source old a b x y)
 
   module _ (layout : List ℕ) where
-    on-once : {A : Type 0} {old x y : A} {P Q : Fields → Type 0} → ((f : Fields) → P f → Q f → (r ≡ s) × (x ≡ y)) → OnLayout layout P (Refused r old x) → OnLayout layout Q (Refused s old y) → (r ≡ s) × (x ≡ y)
+    on-once : {A : Type 0} {old x y : A} {P Q : Fields → Type 0} → ((f : Fields) → P f → Q f → (r ≡ s) × (x ≡ y)) → OnLayout layout P (RefusedUnserved r old x) → OnLayout layout Q (RefusedUnserved s old y) → (r ≡ s) × (x ≡ y)
     on-once {A} {old} {x} {y} one p q = by (flagged layout) refl
       where
         by : (b : Bool) → flagged layout ≡ b → (r ≡ s) × (x ≡ y)
         by true e = let u = p .unserved e in let v = q .unserved e in (u .0 ∙ sym (v .0), u .1 ∙ sym (v .1))
         by false e = one (fieldsOf layout) (p .served e) (q .served e)
 
-    pub hamrisk-check-layout-determined : (old v w : List ℕ) → OnLayout layout (λ f. Lent derivedOutcome (LayoutChecked f) r old v) (Refused r old v) → OnLayout layout (λ f. Lent derivedOutcome (LayoutChecked f) s old w) (Refused s old w) → (r ≡ s) × (v ≡ w)
+    pub hamrisk-check-layout-determined : (old v w : List ℕ) → OnLayout layout (λ f. Lent derivedOutcome (LayoutChecked f) r old v) (RefusedUnserved r old v) → OnLayout layout (λ f. Lent derivedOutcome (LayoutChecked f) s old w) (RefusedUnserved s old w) → (r ≡ s) × (v ≡ w)
     hamrisk-check-layout-determined old v w = on-once (λ f t u. lent-once (λ a b p q. (check-layout-determined f a b p q, tt {0})) t u .0)
 
-    pub hamrisk-index-determined : (k old v w : ℕ) → OnLayout layout (λ f. Lent placeOutcome (Indexed (completed f) k) r old v) (Refused r old v) → OnLayout layout (λ f. Lent placeOutcome (Indexed (completed f) k) s old w) (Refused s old w) → (r ≡ s) × (v ≡ w)
+    pub hamrisk-index-determined : (k old v w : ℕ) → OnLayout layout (λ f. Lent placeOutcome (Indexed (completed f) k) r old v) (RefusedUnserved r old v) → OnLayout layout (λ f. Lent placeOutcome (Indexed (completed f) k) s old w) (RefusedUnserved s old w) → (r ≡ s) × (v ≡ w)
     hamrisk-index-determined k old v w = on-once (λ f t u. lent-once (λ a b p q. (index-determined (completed f) k a b p q, tt {0})) t u .0)
 
-    pub hamrisk-render-determined : (file raw old x y : List ℕ) → OnLayout layout (λ f. Told doneOutcome (λ d. Rendered (completed f) file raw old d x) r) (Refused r old x) → OnLayout layout (λ f. Told doneOutcome (λ d. Rendered (completed f) file raw old d y) s) (Refused s old y) → (r ≡ s) × (x ≡ y)
+    pub hamrisk-render-determined : (file raw old x y : List ℕ) → OnLayout layout (λ f. Told doneOutcome (λ d. Rendered (completed f) file raw old d x) r) (RefusedUnserved r old x) → OnLayout layout (λ f. Told doneOutcome (λ d. Rendered (completed f) file raw old d y) s) (RefusedUnserved s old y) → (r ≡ s) × (x ≡ y)
     hamrisk-render-determined file raw old x y = on-once (λ f. told-once (λ a b. render-determined (completed f) file raw old a b x y))
 
-    pub hamrisk-write-planes-determined : (picture old x y : List ℕ) → OnLayout layout (λ f. Told doneOutcome (λ d. Written (completed f) picture old d x) r) (Refused r old x) → OnLayout layout (λ f. Told doneOutcome (λ d. Written (completed f) picture old d y) s) (Refused s old y) → (r ≡ s) × (x ≡ y)
+    pub hamrisk-write-planes-determined : (picture old x y : List ℕ) → OnLayout layout (λ f. Told doneOutcome (λ d. Written (completed f) picture old d x) r) (RefusedUnserved r old x) → OnLayout layout (λ f. Told doneOutcome (λ d. Written (completed f) picture old d y) s) (RefusedUnserved s old y) → (r ≡ s) × (x ≡ y)
     hamrisk-write-planes-determined picture old x y = on-once (λ f. told-once (λ a b. write-planes-determined (completed f) picture old a b x y))
 
 pub hamrisk-reverse-bits-determined : (old x y : List ℕ) → Reversed old x → Reversed old y → x ≡ y

@@ -12,8 +12,9 @@ use Rattle.layout.specs.declared.Checked.{Checked}
 use Rattle.layout.specs.declared.Checked.the-variants as Checked-is
 use Rattle.layout.specs.Layout.{LayoutChecked}
 
-abbrev pub set : List ℕ → ℕ → Bool
-set s n = not (eqb (getD s n 0) 0)
+-- number n, taken as a flag
+abbrev pub isSet : List ℕ → ℕ → Bool
+isSet s n = not (eqb (getD s n 0) 0)
 
 -- the fields in the order of include/hamrisk.h
 abbrev pub fieldsOf : List ℕ → Fields
@@ -24,10 +25,10 @@ fieldsOf s =
       ch = getD s 2 0;
       bytes = getD s 3 0;
       slots = getD s 4 0;
-      palette = set s 5;
-      separate = set s 6;
-      le = set s 7;
-      white = set s 8;
+      palette = isSet s 5;
+      separate = isSet s 6;
+      le = isSet s 7;
+      white = isSet s 8;
       alpha = getD s 9 0;
       map = getD s 10 0;
     }
@@ -42,8 +43,8 @@ pub record OnLayout (s : List ℕ) (Promised : Fields → Type 0) (Unserved : Ty
   pub unserved : flagged s ≡ true → Unserved
 
 -- a call that is refused as Unsupported and leaves what was lent to it
-abbrev pub Refused : {A : Type 0} → ℕ → A → A → Type 0
-Refused r old new = (r ≡ 1) × (new ≡ old)
+abbrev pub RefusedUnserved : {A : Type 0} → ℕ → A → A → Type 0
+RefusedUnserved r old new = (r ≡ 1) × (new ≡ old)
 
 abbrev pub Asked : List ℕ → Checked → Type 0
 Asked s answer = OnLayout s (λ f. LayoutChecked f answer) (answer ≡ Checked-is.Refused Unsupported)

@@ -12,7 +12,7 @@ ghost use Rattle.layout.specs.Layout.{completed, LayoutChecked, Indexed, placeO
 ghost use Rattle.pixels.specs.Render.{Rendered};
 ghost use Rattle.pixels.specs.Planes.{Written};
 ghost use Rattle.capi.specs.Told.{Told, Lent, derivedOf, derivedOutcome};
-ghost use Rattle.capi.specs.OnLayouts.{fieldsOf, flagged as flaggedOf, OnLayout, Asked, Refused};
+ghost use Rattle.capi.specs.OnLayouts.{fieldsOf, flagged as flaggedOf, OnLayout, Asked, RefusedUnserved};
 
 type Layout = [usize; 11];
 
@@ -79,7 +79,7 @@ fn derived_of(l: RasterLayout) -> [usize; 7]
 // What follows from a layout: the record's derived fields, in its order.
 #[no_mangle]
 pub extern "C" fn hamrisk_check_layout(layout: &Layout, derived: &mut [usize; 7]) -> u32
-    ensures { λ r. ⌜ OnLayout (now (layout .entry)) (λ f. Lent derivedOutcome (LayoutChecked f) r (now (derived .entry)) (now (derived .exit))) (Refused r (now (derived .entry)) (now (derived .exit))) ⌝ }
+    ensures { λ r. ⌜ OnLayout (now (layout .entry)) (λ f. Lent derivedOutcome (LayoutChecked f) r (now (derived .entry)) (now (derived .exit))) (RefusedUnserved r (now (derived .entry)) (now (derived .exit))) ⌝ }
 {
     match asked(layout) {
         Checked::Refused(kind) => answer::number(kind),
@@ -106,7 +106,7 @@ fn place_of(l: RasterLayout, k: usize, place: &mut usize) -> u32
 // The place in the planes of byte k of the picture.
 #[no_mangle]
 pub extern "C" fn hamrisk_index(layout: &Layout, k: usize, place: &mut usize) -> u32
-    ensures { λ r. ⌜ OnLayout (now (layout .entry)) (λ f. Lent placeOutcome (Indexed (completed f) k) r (now (place .entry)) (now (place .exit))) (Refused r (now (place .entry)) (now (place .exit))) ⌝ }
+    ensures { λ r. ⌜ OnLayout (now (layout .entry)) (λ f. Lent placeOutcome (Indexed (completed f) k) r (now (place .entry)) (now (place .exit))) (RefusedUnserved r (now (place .entry)) (now (place .exit))) ⌝ }
 {
     match asked(layout) {
         Checked::Refused(kind) => answer::number(kind),
@@ -117,7 +117,7 @@ pub extern "C" fn hamrisk_index(layout: &Layout, k: usize, place: &mut usize) ->
 // The picture that planes of this layout hold; `file` has the colours of a palette.
 #[no_mangle]
 pub extern "C" fn hamrisk_render(layout: &Layout, file: &[u8], raw: &[u8], out: &mut [u8]) -> u32
-    ensures { λ r. ⌜ OnLayout (now (layout .entry)) (λ f. Told doneOutcome (λ d. Rendered (completed f) (now (file .entry)) (now (raw .entry)) (now (out .entry)) d (now (out .exit))) r) (Refused r (now (out .entry)) (now (out .exit))) ⌝ }
+    ensures { λ r. ⌜ OnLayout (now (layout .entry)) (λ f. Told doneOutcome (λ d. Rendered (completed f) (now (file .entry)) (now (raw .entry)) (now (out .entry)) d (now (out .exit))) r) (RefusedUnserved r (now (out .entry)) (now (out .exit))) ⌝ }
 {
     match asked(layout) {
         Checked::Refused(kind) => answer::number(kind),
@@ -128,7 +128,7 @@ pub extern "C" fn hamrisk_render(layout: &Layout, file: &[u8], raw: &[u8], out: 
 // The planes whose rendering is a picture.
 #[no_mangle]
 pub extern "C" fn hamrisk_write_planes(layout: &Layout, picture: &[u8], planes: &mut [u8]) -> u32
-    ensures { λ r. ⌜ OnLayout (now (layout .entry)) (λ f. Told doneOutcome (λ d. Written (completed f) (now (picture .entry)) (now (planes .entry)) d (now (planes .exit))) r) (Refused r (now (planes .entry)) (now (planes .exit))) ⌝ }
+    ensures { λ r. ⌜ OnLayout (now (layout .entry)) (λ f. Told doneOutcome (λ d. Written (completed f) (now (picture .entry)) (now (planes .entry)) d (now (planes .exit))) r) (RefusedUnserved r (now (planes .entry)) (now (planes .exit))) ⌝ }
 {
     match asked(layout) {
         Checked::Refused(kind) => answer::number(kind),
