@@ -1,9 +1,8 @@
 -- Layouts as document 01 has them: what a caller says, what follows from it, the faults in the document's order, and where a byte comes from.
 -- Assumes nothing.
-use Prim.{Unit}
 use Prim.Native.Nat.{ℕ, _+_, _-_, _*_, _/_, _%_, _≤_, _<_}
 use mathlib.Core.Path.{_≡_}
-use mathlib.Core.Bool.{Bool, true, not, _&&_, _||_}
+use mathlib.Core.Bool.{Bool, not, _&&_, _||_}
 use mathlib.Core.List.{List, [], _∷_, _++_}
 use lib.Dec.{eqb, ltb, leb}
 use Rattle.answer.specs.Outcome.{Outcome, done, refused, Fault, unless, unsupported, invalid, limit, number, pick, doneOutcome, Sound}

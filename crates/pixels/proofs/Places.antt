@@ -1,9 +1,9 @@
 -- Where a byte of the picture stands in the planes and which byte of the picture a place of the planes takes: each undoes the other, where a place
 -- holds one byte. Assumes nothing.
-use Prim.Native.Nat.{ℕ, zero, suc, _+_, _-_, _*_, _/_, _%_, _<_}
+use Prim.Native.Nat.{ℕ, _+_, _-_, _*_, _/_, _%_, _<_}
 use mathlib.Core.Path.{_≡_, refl, sym, ap, _∙_}
 use mathlib.Core.Bool.{Bool, true, false, _&&_}
-use native.Mathlib.Nat.{mul-comm, mul-zero, mul-one, add-assoc, add-zero, div-add-mod', div-eq-of-lt, mod-eq-of-lt, mod-lt, mul-add-div-right, mul-add-mod-self-right, div-lt-iff-lt-mul, mul-assoc}
+use native.Mathlib.Nat.{mul-comm, mul-one, add-assoc, div-add-mod', mod-lt, div-lt-iff-lt-mul, mul-assoc}
 use native.Mathlib.Omega.{arith}
 use lib.Dec.{eqb}
 use Rattle.answer.specs.Outcome.{Sound, pick}

@@ -7,8 +7,7 @@ use mathlib.Core.Bool.{Bool, true, false, not, _&&_}
 use mathlib.Core.List.{List}
 use native.Mathlib.Omega.{arith}
 use borrow.Author.Tests.{ltb-false, le-ltb}
-use lib.ListN.{length, getD, take, length-take}
-use lib.Seq.{getD-take, ext-getD}
+use lib.ListN.{length, getD, take}
 use lib.Dec.{eqb}
 use Rattle.answer.specs.Outcome.{Sound, next, none, done, pick, xor}
 use Rattle.answer.specs.Table.{table}

@@ -9,7 +9,7 @@ use mathlib.Core.Path.{_≡_, ap, _∙_}
 use mir.Facts.{fits-below}
 use Rattle.answer.specs.Outcome.{done, next, none}
 use Rattle.answer.proofs.Promised.{sound-done}
-use Rattle.words.specs.Promises.{placeOutcome, placeFaults}
+use Rattle.words.specs.Promises.{placeOutcome}
 use Rattle.layout.specs.Layout.{byteLimit, pixelOf, byteOf, sampleIndex, plainIndex}
 use Rattle.layout.proofs.Accepted.{up-to-eight}
 use Rattle.layout.proofs.Sizes.{bytes-few}
