@@ -20,7 +20,7 @@ use Rattle.words.proofs.Words.{word-below}
 use Rattle.samples.specs.Sample.{Strip, wordOf, alone, storedAt}
 use Rattle.samples.specs.Promises.{reorderFaults, Reordered}
 use Rattle.samples.proofs.Sums.{sample-alone, difference-alone}
-use Rattle.rows.specs.Row.{oneRow, meant, RowServed, Led, LeadFits, LedInto, undoneAt, predictedAt, UndoneInto, PredictedInto, TransformedInto}
+use Rattle.rows.specs.Row.{oneRow, meant, RowServed, Led, LeadFits, LedInto, undoneAt, predictedAt, meantAt, TransformedInto}
 
 module _ (raw : List ℕ) (b : Bytes raw) (channels width : ℕ) (some : 0 < width) (le out-le : Bool) (k : ℕ) (h : k < channels * width) where
   first : alone (oneRow raw channels width) true (k / width) ≡ true
@@ -59,19 +59,21 @@ lead-fits {raw} {channels} {width} row = record {
   room = omega (arith, row .step, row .fits .room);
 }
 
--- a row whose first words `lead` put there
-module _ (raw : List ℕ) (b : Bytes raw) (channels width : ℕ) (le out-le : Bool) (old mid : List ℕ) (row : RowServed raw channels width old) (is : LedInto raw (channels * width) width le out-le old mid) where
-  pub undone-on : Led (undoneAt raw channels width le out-le) raw channels width mid
-  undone-on = goes-on _ raw channels width le out-le old mid row (first-undone raw b channels width (row .fits .wide) le out-le) is
+-- a row whose first words `lead` put there, predicted or undone
+module _ (raw : List ℕ) (b : Bytes raw) (channels width : ℕ) (le out-le forward : Bool) (old mid : List ℕ) (row : RowServed raw channels width old) (is : LedInto raw (channels * width) width le out-le old mid) where
+  agree : (f : Bool) (k : ℕ) → k < channels * width → storedAt width out-le (wordOf width le raw) k ≡ meantAt raw channels width le out-le f k
+  agree true = first-predicted raw b channels width (row .fits .wide) le out-le
+  agree false = first-undone raw b channels width (row .fits .wide) le out-le
 
-  pub undone-all : (new : List ℕ) → UndoneInto raw channels width le out-le mid new → UndoneInto raw channels width le out-le old new
-  undone-all = done-on _ raw channels width le out-le old mid row (first-undone raw b channels width (row .fits .wide) le out-le) is
+  pub lead-on : Led (meantAt raw channels width le out-le forward) raw channels width mid
+  lead-on = goes-on _ raw channels width le out-le old mid row (agree forward) is
 
-  pub predicted-on : Led (predictedAt raw channels width le out-le) raw channels width mid
-  predicted-on = goes-on _ raw channels width le out-le old mid row (first-predicted raw b channels width (row .fits .wide) le out-le) is
+  pub lead-all : (new : List ℕ) → TransformedInto raw (oneRow raw channels width) true le out-le forward mid new → TransformedInto raw (oneRow raw channels width) true le out-le forward old new
+  lead-all = done-on _ raw channels width le out-le old mid row (agree forward) is
 
-  pub predicted-all : (new : List ℕ) → PredictedInto raw channels width le out-le mid new → PredictedInto raw channels width le out-le old new
-  predicted-all = done-on _ raw channels width le out-le old mid row (first-predicted raw b channels width (row .fits .wide) le out-le) is
+-- such a row fits the loop of its direction
+pub steps-fits : {raw : List ℕ} {channels width : ℕ} {forward f : Bool} {out : List ℕ} (le out-le : Bool) → forward ≡ f → (served width ≡ true) × Led (meantAt raw channels width le out-le forward) raw channels width out → (served width ≡ true) × Led (meantAt raw channels width le out-le f) raw channels width out
+steps-fits le out-le e is = rw e at is
 
 -- without prediction every word stands for itself, and `reorder` puts it there
 pub unpredicted : (raw : List ℕ) (b : Bytes raw) (g : Strip) (le out-le forward : Bool) (old : List ℕ) (answer : Done) (new : List ℕ) → served (g .width) ≡ true → length raw % g .width ≡ 0 → length raw ≤ length old → Reordered raw (g .width) le out-le old answer new → TransformedInto raw g false le out-le forward old new

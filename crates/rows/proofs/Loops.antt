@@ -1,16 +1,16 @@
 -- The loops over a row, for every width: their invariants, how a turn keeps each, and what it comes to at the end. Assumes nothing.
 use mathlib.Core.Path.{_≡_, refl, sym, ap, _∙_}
 use mathlib.Core.Bool.{Bool, true, false}
-use mathlib.Core.List.{List}
+use mathlib.Core.List.{List, _++_}
 use Prim.Native.Nat.{ℕ, _+_, _-_, _*_, _/_, _%_, _≤_, _<_}
-use native.Mathlib.Nat.{mul-mod-left, add-zero, zero-mod, add-mod-right, add-mul-div-right, mul-div-cancel, div-add-mod', mod-eq-of-lt, mod-add-mod, add-mod-mod, le-div-iff-mul-le, add-mul, one-mul, mul-sub, mul-comm, le-mul-of-pos-right}
+use native.Mathlib.Nat.{mod-lt, mul-mod-left, add-zero, zero-mod, add-mod-right, add-mul-div-right, mul-div-cancel, div-add-mod', mod-eq-of-lt, mod-add-mod, add-mod-mod, le-div-iff-mul-le, add-mul, one-mul, mul-sub, mul-comm, le-mul-of-pos-right}
 use native.Mathlib.Numerals.{add-one}
 use native.Mathlib.Omega.{arith}
 use borrow.Author.Tests.{lt-ltb, le-ltb}
 use lib.Dec.{ltb}
 use native.Mathlib.Decide.{decLt}
 use Rattle.answer.specs.Outcome.{pick}
-use lib.ListN.{length, getD}
+use lib.ListN.{length, getD, List·getD-append}
 use Rattle.answer.specs.Table.{filled}
 use Rattle.answer.proofs.Filling.{length-stores, stores-filled, filled-front, filled-already, filled-same}
 use Rattle.words.specs.Digits.{digit}
@@ -21,7 +21,8 @@ use Rattle.samples.specs.Sample.{Strip, alone, wordOf, sample, difference, stor
 use Rattle.samples.proofs.Sums.{sample-alone, sample-later, difference-later}
 use Rattle.samples.proofs.Stored.{stored-byte}
 use Rattle.samples.proofs.Undo.{sample-below}
-use Rattle.rows.specs.Row.{oneRow, RowFits, Led, undoneAt, resumed}
+use Rattle.words.specs.Promises.{served}
+use Rattle.rows.specs.Row.{oneRow, RowFits, HeldFits, Led, undoneAt, resumed, ResumedInto}
 use Rattle.laws.proofs.Lists.{nothing, zeros}
 
 -- the buffer holds the words v, stored, up to `at`, of n bytes in all
@@ -102,11 +103,31 @@ carried-on raw channels width le start n some h = by (decLt n channels)
         (mod-add-mod (w + s) (modulus width) t ∙ ap (λ (x : ℕ). x % modulus width) together ∙ sym (add-mod-mod w (s + t) (modulus width)))
 
 -- a row that starts from nothing is the row
-pub resumed-none : (raw : List ℕ) (channels width : ℕ) (le out-le : Bool) (old : List ℕ) → 0 < channels → filled (length raw) (storedAt width out-le (resumed raw channels width le (nothing channels))) old ≡ filled (length raw) (undoneAt raw channels width le out-le) old
-resumed-none raw channels width le out-le old some =
+pub resumed-none : (raw : List ℕ) (channels width : ℕ) (le out-le : Bool) (old : List ℕ) (n : ℕ) → 0 < channels → filled (length raw) (storedAt width out-le (resumed raw channels width le (nothing n))) old ≡ filled (length raw) (undoneAt raw channels width le out-le) old
+resumed-none raw channels width le out-le old n some =
     filled-same (length raw) _ _ old (λ k h.
     ap (digit 256 (ordered out-le width (k % width)))
-    (rw (zeros channels (k / width % channels), add-zero) (mod-eq-of-lt (sample-below (oneRow raw channels width) true le raw some (k / width)))))
+    (rw (zeros n (k / width % channels), add-zero) (mod-eq-of-lt (sample-below (oneRow raw channels width) true le raw some (k / width)))))
+
+-- sums past those of its channels are nothing to a row
+pub resumed-more : (raw : List ℕ) (channels width : ℕ) (le out-le : Bool) (start more old : List ℕ) → 0 < channels → channels ≤ length start → filled (length raw) (storedAt width out-le (resumed raw channels width le start)) old ≡ filled (length raw) (storedAt width out-le (resumed raw channels width le (start ++ more))) old
+resumed-more raw channels width le out-le start more old some enough =
+    filled-same (length raw) _ _ old (λ k h.
+    ap (λ (s : ℕ). digit 256 (ordered out-le width (k % width)) (plus width (sample (oneRow raw channels width) true le raw (k / width)) s))
+    (sym (List·getD-append start more 0 (k / width % channels) (omega (arith, mod-lt (k / width) some)))))
+
+-- a row whose channels' sums are held: it fits the loop of so many, and what that comes to is meant
+module _ {least : ℕ} {raw : List ℕ} {channels width : ℕ} {old : List ℕ} (held : HeldFits least raw channels width old) where
+  -- not the least: then one more
+  pub held-more : (channels ≡ least → ⊥) → channels ≡ least + 1
+  held-more e = omega (arith, held .enough, held .few, e)
+
+  module _ {n : ℕ} (e : channels ≡ n) where
+    pub held-fits : (served width ≡ true) × RowFits raw n width old
+    held-fits = (held .takes, rw e at (held .fits))
+
+    pub held-all : (le out-le : Bool) (start more new : List ℕ) → n ≤ length start → ResumedInto raw n width le out-le start old new → ResumedInto raw channels width le out-le (start ++ more) old new
+    held-all le out-le start more new enough is = rw e (is ∙ resumed-more raw n width le out-le start more old (held-fits .1 .channel) enough)
 
 -- a row whose channels' sums are carried along, from any start
 module _ (le : Bool) (start : List ℕ) {raw : List ℕ} {channels width : ℕ} {out-le : Bool} {old : List ℕ} {at : ℕ} {out : List ℕ} (fits : RowFits raw channels width old) (is : Upto (resumed raw channels width le start) width out-le (length raw) old at out) where

@@ -1,6 +1,6 @@
 -- What is promised of a strip's rows and of one row: conversion, and with `forward` forward prediction. A row is a strip of one row, so
 -- the definitions are the strip's own. Assumes nothing.
-use Prim.Native.Nat.{ℕ, _*_, _%_, _≤_, _<_}
+use Prim.Native.Nat.{ℕ, _+_, _*_, _%_, _≤_, _<_}
 use mathlib.Core.Path.{_≡_}
 use mathlib.Core.Bool.{Bool, true}
 use mathlib.Core.List.{List, [], _∷_, _++_}
@@ -54,6 +54,10 @@ undoneAt raw channels width le out-le = storedAt width out-le (sample (oneRow ra
 abbrev pub predictedAt : List ℕ → ℕ → ℕ → Bool → Bool → ℕ → ℕ
 predictedAt raw channels width le out-le = storedAt width out-le (difference (oneRow raw channels width) true le raw)
 
+-- the bytes that are written of a row with prediction
+abbrev pub meantAt : List ℕ → ℕ → ℕ → Bool → Bool → Bool → ℕ → ℕ
+meantAt raw channels width le out-le forward = storedAt width out-le (meant forward (oneRow raw channels width) true le raw)
+
 abbrev pub UndoneInto : List ℕ → ℕ → ℕ → Bool → Bool → List ℕ → List ℕ → Type 0
 UndoneInto raw channels width le out-le old new = new ≡ filled (length raw) (undoneAt raw channels width le out-le) old
 
@@ -72,6 +76,13 @@ pub record Led (f : ℕ → ℕ) (raw : List ℕ) (channels width : ℕ) (out : 
   pub fits : RowFits raw channels width out
   pub step : channels * width ≤ length raw
   pub front : take (channels * width) out ≡ table (channels * width) f
+
+-- a row of `least` channels or one more, whose sums are held in locals
+pub record HeldFits (least : ℕ) (raw : List ℕ) (channels width : ℕ) (out : List ℕ) : Type 0 where
+  pub takes : served width ≡ true
+  pub fits : RowFits raw channels width out
+  pub enough : least ≤ channels
+  pub few : channels ≤ least + 1
 
 -- what is known of a row past every refusal
 pub record RowServed (raw : List ℕ) (channels width : ℕ) (out : List ℕ) : Type 0 where

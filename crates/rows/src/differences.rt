@@ -5,7 +5,14 @@ ghost use mathlib.Core.Bool.{true};
 ghost use Rattle.words.specs.Promises.{served};
 ghost use Rattle.rows.specs.Row.{Led, predictedAt, PredictedInto};
 
-fn differences_of(raw: &[u8], channels: usize, width: usize, le: bool, out_le: bool, out: &mut [u8])
+pub(crate) fn differences(
+    raw: &[u8],
+    channels: usize,
+    width: usize,
+    le: bool,
+    out_le: bool,
+    out: &mut [u8],
+)
     requires { ⌜ (served width ≡ true) × Led (predictedAt (now raw) channels width le «out_le») (now raw) channels width (now out) ⌝ }
     ensures { λ r. ⌜ PredictedInto (now (raw .entry)) channels width le «out_le» (now (out .entry)) (now (out .exit)) ⌝ }
 {
@@ -19,65 +26,5 @@ fn differences_of(raw: &[u8], channels: usize, width: usize, le: bool, out_le: b
         );
         word::put(out, at, width, out_le, less);
         at += width;
-    }
-}
-
-// Every arm is the same call: each knows its width and byte orders, and the compiler makes a loop of each; the last serves any other.
-// (The first knows one order too: else the compiler takes it and the last for one.)
-pub(crate) fn differences(
-    raw: &[u8],
-    channels: usize,
-    width: usize,
-    le: bool,
-    out_le: bool,
-    out: &mut [u8],
-)
-    requires { ⌜ (served width ≡ true) × Led (predictedAt (now raw) channels width le «out_le») (now raw) channels width (now out) ⌝ }
-    ensures { λ r. ⌜ PredictedInto (now (raw .entry)) channels width le «out_le» (now (out .entry)) (now (out .exit)) ⌝ }
-{
-    if width == 1 {
-        if le {
-            differences_of(raw, channels, width, le, out_le, out)
-        } else {
-            differences_of(raw, channels, width, le, out_le, out)
-        }
-    } else if width == 2 {
-        if le {
-            if out_le {
-                differences_of(raw, channels, width, le, out_le, out)
-            } else {
-                differences_of(raw, channels, width, le, out_le, out)
-            }
-        } else if out_le {
-            differences_of(raw, channels, width, le, out_le, out)
-        } else {
-            differences_of(raw, channels, width, le, out_le, out)
-        }
-    } else if width == 4 {
-        if le {
-            if out_le {
-                differences_of(raw, channels, width, le, out_le, out)
-            } else {
-                differences_of(raw, channels, width, le, out_le, out)
-            }
-        } else if out_le {
-            differences_of(raw, channels, width, le, out_le, out)
-        } else {
-            differences_of(raw, channels, width, le, out_le, out)
-        }
-    } else if width == 8 {
-        if le {
-            if out_le {
-                differences_of(raw, channels, width, le, out_le, out)
-            } else {
-                differences_of(raw, channels, width, le, out_le, out)
-            }
-        } else if out_le {
-            differences_of(raw, channels, width, le, out_le, out)
-        } else {
-            differences_of(raw, channels, width, le, out_le, out)
-        }
-    } else {
-        differences_of(raw, channels, width, le, out_le, out)
     }
 }

@@ -7,7 +7,7 @@ ghost use mathlib.Core.List.{[], _∷_};
 ghost use Rattle.words.specs.Promises.{served};
 ghost use Rattle.rows.specs.Row.{RowFits, ResumedInto};
 
-fn fours_of(
+pub(crate) fn fours(
     raw: &[u8],
     width: usize,
     le: bool,
@@ -39,68 +39,5 @@ fn fours_of(
         word::put(out, third, width, out_le, c);
         word::put(out, fourth, width, out_le, d);
         at += 4 * width;
-    }
-}
-
-// Every arm is the same call: each knows its width and byte orders, and the compiler makes a loop of each; the last serves any other.
-// (The first knows one order too: else the compiler takes it and the last for one.)
-pub(crate) fn fours(
-    raw: &[u8],
-    width: usize,
-    le: bool,
-    out_le: bool,
-    a: u64,
-    b: u64,
-    c: u64,
-    d: u64,
-    out: &mut [u8],
-)
-    requires { ⌜ (served width ≡ true) × RowFits (now raw) 4 width (now out) ⌝ }
-    ensures { λ r. ⌜ ResumedInto (now (raw .entry)) 4 width le «out_le» (a ∷ b ∷ c ∷ d ∷ []) (now (out .entry)) (now (out .exit)) ⌝ }
-{
-    if width == 1 {
-        if le {
-            fours_of(raw, width, le, out_le, a, b, c, d, out)
-        } else {
-            fours_of(raw, width, le, out_le, a, b, c, d, out)
-        }
-    } else if width == 2 {
-        if le {
-            if out_le {
-                fours_of(raw, width, le, out_le, a, b, c, d, out)
-            } else {
-                fours_of(raw, width, le, out_le, a, b, c, d, out)
-            }
-        } else if out_le {
-            fours_of(raw, width, le, out_le, a, b, c, d, out)
-        } else {
-            fours_of(raw, width, le, out_le, a, b, c, d, out)
-        }
-    } else if width == 4 {
-        if le {
-            if out_le {
-                fours_of(raw, width, le, out_le, a, b, c, d, out)
-            } else {
-                fours_of(raw, width, le, out_le, a, b, c, d, out)
-            }
-        } else if out_le {
-            fours_of(raw, width, le, out_le, a, b, c, d, out)
-        } else {
-            fours_of(raw, width, le, out_le, a, b, c, d, out)
-        }
-    } else if width == 8 {
-        if le {
-            if out_le {
-                fours_of(raw, width, le, out_le, a, b, c, d, out)
-            } else {
-                fours_of(raw, width, le, out_le, a, b, c, d, out)
-            }
-        } else if out_le {
-            fours_of(raw, width, le, out_le, a, b, c, d, out)
-        } else {
-            fours_of(raw, width, le, out_le, a, b, c, d, out)
-        }
-    } else {
-        fours_of(raw, width, le, out_le, a, b, c, d, out)
     }
 }

@@ -1,17 +1,20 @@
 // A strip's rows, predicted or with prediction undone: each kind of row in a loop of its own, for every width and both byte orders.
 mod differences;
 mod fours;
+mod narrow;
+mod steps;
 mod sums;
 mod threes;
 mod trails;
 mod twos;
+mod wide;
 mod word;
 
 use answer::Done;
 use answer::Refusal;
 ghost use mathlib.Core.Bool.{true};
 ghost use Rattle.samples.specs.Sample.{strip};
-ghost use Rattle.rows.specs.Row.{RowServed, StripServed, RoomChecked, LeadFits, LedInto, oneRow, UndoneInto, PredictedInto, TransformedInto, Transformed, RowTransformed};
+ghost use Rattle.rows.specs.Row.{RowServed, StripServed, RoomChecked, LeadFits, LedInto, oneRow, TransformedInto, Transformed, RowTransformed};
 
 // The first words of a row, which stand for themselves.
 fn lead(raw: &[u8], step: usize, width: usize, le: bool, out_le: bool, out: &mut [u8])
@@ -25,30 +28,7 @@ fn lead(raw: &[u8], step: usize, width: usize, le: bool, out_le: bool, out: &mut
     }
 }
 
-fn undo_words(raw: &[u8], channels: usize, width: usize, le: bool, out_le: bool, out: &mut [u8])
-    requires { ⌜ RowServed (now raw) channels width (now out) ⌝ }
-    ensures { λ r. ⌜ UndoneInto (now (raw .entry)) channels width le «out_le» (now (out .entry)) (now (out .exit)) ⌝ }
-{
-    match channels {
-        1 => sums::sums(raw, width, le, out_le, 0, out),
-        2 => twos::twos(raw, width, le, out_le, 0, 0, out),
-        3 => threes::threes(raw, width, le, out_le, 0, 0, 0, out),
-        4 => fours::fours(raw, width, le, out_le, 0, 0, 0, 0, out),
-        _ => {
-            lead(raw, channels * width, width, le, out_le, out);
-            trails::trails(raw, channels, width, le, out_le, out)
-        }
-    }
-}
-
-fn predict_words(raw: &[u8], channels: usize, width: usize, le: bool, out_le: bool, out: &mut [u8])
-    requires { ⌜ RowServed (now raw) channels width (now out) ⌝ }
-    ensures { λ r. ⌜ PredictedInto (now (raw .entry)) channels width le «out_le» (now (out .entry)) (now (out .exit)) ⌝ }
-{
-    lead(raw, channels * width, width, le, out_le, out);
-    differences::differences(raw, channels, width, le, out_le, out)
-}
-
+// One row past every refusal.
 fn transform_words(
     raw: &[u8],
     channels: usize,
@@ -63,10 +43,13 @@ fn transform_words(
     ensures { λ r. ⌜ TransformedInto (now (raw .entry)) (oneRow (now (raw .entry)) channels width) predict le «out_le» forward (now (out .entry)) (now (out .exit)) ⌝ }
 {
     if predict {
-        if forward {
-            predict_words(raw, channels, width, le, out_le, out)
+        if forward | (4 < channels) {
+            lead(raw, channels * width, width, le, out_le, out);
+            steps::steps(raw, channels, width, le, out_le, forward, out)
+        } else if channels < 3 {
+            narrow::narrow(raw, channels, width, le, out_le, 0, 0, out)
         } else {
-            undo_words(raw, channels, width, le, out_le, out)
+            wide::wide(raw, channels, width, le, out_le, 0, 0, 0, 0, out)
         }
     } else {
         samples::reorder(raw, width, le, out_le, out);

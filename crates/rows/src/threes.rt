@@ -7,7 +7,7 @@ ghost use mathlib.Core.List.{[], _∷_};
 ghost use Rattle.words.specs.Promises.{served};
 ghost use Rattle.rows.specs.Row.{RowFits, ResumedInto};
 
-fn threes_of(
+pub(crate) fn threes(
     raw: &[u8],
     width: usize,
     le: bool,
@@ -34,67 +34,5 @@ fn threes_of(
         word::put(out, second, width, out_le, b);
         word::put(out, third, width, out_le, c);
         at += 3 * width;
-    }
-}
-
-// Every arm is the same call: each knows its width and byte orders, and the compiler makes a loop of each; the last serves any other.
-// (The first knows one order too: else the compiler takes it and the last for one.)
-pub(crate) fn threes(
-    raw: &[u8],
-    width: usize,
-    le: bool,
-    out_le: bool,
-    a: u64,
-    b: u64,
-    c: u64,
-    out: &mut [u8],
-)
-    requires { ⌜ (served width ≡ true) × RowFits (now raw) 3 width (now out) ⌝ }
-    ensures { λ r. ⌜ ResumedInto (now (raw .entry)) 3 width le «out_le» (a ∷ b ∷ c ∷ []) (now (out .entry)) (now (out .exit)) ⌝ }
-{
-    if width == 1 {
-        if le {
-            threes_of(raw, width, le, out_le, a, b, c, out)
-        } else {
-            threes_of(raw, width, le, out_le, a, b, c, out)
-        }
-    } else if width == 2 {
-        if le {
-            if out_le {
-                threes_of(raw, width, le, out_le, a, b, c, out)
-            } else {
-                threes_of(raw, width, le, out_le, a, b, c, out)
-            }
-        } else if out_le {
-            threes_of(raw, width, le, out_le, a, b, c, out)
-        } else {
-            threes_of(raw, width, le, out_le, a, b, c, out)
-        }
-    } else if width == 4 {
-        if le {
-            if out_le {
-                threes_of(raw, width, le, out_le, a, b, c, out)
-            } else {
-                threes_of(raw, width, le, out_le, a, b, c, out)
-            }
-        } else if out_le {
-            threes_of(raw, width, le, out_le, a, b, c, out)
-        } else {
-            threes_of(raw, width, le, out_le, a, b, c, out)
-        }
-    } else if width == 8 {
-        if le {
-            if out_le {
-                threes_of(raw, width, le, out_le, a, b, c, out)
-            } else {
-                threes_of(raw, width, le, out_le, a, b, c, out)
-            }
-        } else if out_le {
-            threes_of(raw, width, le, out_le, a, b, c, out)
-        } else {
-            threes_of(raw, width, le, out_le, a, b, c, out)
-        }
-    } else {
-        threes_of(raw, width, le, out_le, a, b, c, out)
     }
 }

@@ -5,21 +5,6 @@ ghost use mathlib.Core.Bool.{true};
 ghost use Rattle.words.specs.Promises.{served};
 ghost use Rattle.rows.specs.Row.{Led, undoneAt, UndoneInto};
 
-fn trails_of(raw: &[u8], channels: usize, width: usize, le: bool, out_le: bool, out: &mut [u8])
-    requires { ⌜ (served width ≡ true) × Led (undoneAt (now raw) channels width le «out_le») (now raw) channels width (now out) ⌝ }
-    ensures { λ r. ⌜ UndoneInto (now (raw .entry)) channels width le «out_le» (now (out .entry)) (now (out .exit)) ⌝ }
-{
-    let step = channels * width;
-    let mut at = step;
-    while at < raw.len() {
-        let sample = word::sum(raw, at, width, le, word::get(out, at - step, width, out_le));
-        word::put(out, at, width, out_le, sample);
-        at += width;
-    }
-}
-
-// Every arm is the same call: each knows its width and byte orders, and the compiler makes a loop of each; the last serves any other.
-// (The first knows one order too: else the compiler takes it and the last for one.)
 pub(crate) fn trails(
     raw: &[u8],
     channels: usize,
@@ -31,49 +16,11 @@ pub(crate) fn trails(
     requires { ⌜ (served width ≡ true) × Led (undoneAt (now raw) channels width le «out_le») (now raw) channels width (now out) ⌝ }
     ensures { λ r. ⌜ UndoneInto (now (raw .entry)) channels width le «out_le» (now (out .entry)) (now (out .exit)) ⌝ }
 {
-    if width == 1 {
-        if le {
-            trails_of(raw, channels, width, le, out_le, out)
-        } else {
-            trails_of(raw, channels, width, le, out_le, out)
-        }
-    } else if width == 2 {
-        if le {
-            if out_le {
-                trails_of(raw, channels, width, le, out_le, out)
-            } else {
-                trails_of(raw, channels, width, le, out_le, out)
-            }
-        } else if out_le {
-            trails_of(raw, channels, width, le, out_le, out)
-        } else {
-            trails_of(raw, channels, width, le, out_le, out)
-        }
-    } else if width == 4 {
-        if le {
-            if out_le {
-                trails_of(raw, channels, width, le, out_le, out)
-            } else {
-                trails_of(raw, channels, width, le, out_le, out)
-            }
-        } else if out_le {
-            trails_of(raw, channels, width, le, out_le, out)
-        } else {
-            trails_of(raw, channels, width, le, out_le, out)
-        }
-    } else if width == 8 {
-        if le {
-            if out_le {
-                trails_of(raw, channels, width, le, out_le, out)
-            } else {
-                trails_of(raw, channels, width, le, out_le, out)
-            }
-        } else if out_le {
-            trails_of(raw, channels, width, le, out_le, out)
-        } else {
-            trails_of(raw, channels, width, le, out_le, out)
-        }
-    } else {
-        trails_of(raw, channels, width, le, out_le, out)
+    let step = channels * width;
+    let mut at = step;
+    while at < raw.len() {
+        let sample = word::sum(raw, at, width, le, word::get(out, at - step, width, out_le));
+        word::put(out, at, width, out_le, sample);
+        at += width;
     }
 }

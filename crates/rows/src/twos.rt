@@ -7,7 +7,7 @@ ghost use mathlib.Core.List.{[], _∷_};
 ghost use Rattle.words.specs.Promises.{served};
 ghost use Rattle.rows.specs.Row.{RowFits, ResumedInto};
 
-fn twos_of(
+pub(crate) fn twos(
     raw: &[u8],
     width: usize,
     le: bool,
@@ -29,58 +29,5 @@ fn twos_of(
         word::put(out, at, width, out_le, a);
         word::put(out, second, width, out_le, b);
         at += 2 * width;
-    }
-}
-
-// Every arm is the same call: each knows its width and byte orders, and the compiler makes a loop of each; the last serves any other.
-// (The first knows one order too: else the compiler takes it and the last for one.)
-pub(crate) fn twos(raw: &[u8], width: usize, le: bool, out_le: bool, a: u64, b: u64, out: &mut [u8])
-    requires { ⌜ (served width ≡ true) × RowFits (now raw) 2 width (now out) ⌝ }
-    ensures { λ r. ⌜ ResumedInto (now (raw .entry)) 2 width le «out_le» (a ∷ b ∷ []) (now (out .entry)) (now (out .exit)) ⌝ }
-{
-    if width == 1 {
-        if le {
-            twos_of(raw, width, le, out_le, a, b, out)
-        } else {
-            twos_of(raw, width, le, out_le, a, b, out)
-        }
-    } else if width == 2 {
-        if le {
-            if out_le {
-                twos_of(raw, width, le, out_le, a, b, out)
-            } else {
-                twos_of(raw, width, le, out_le, a, b, out)
-            }
-        } else if out_le {
-            twos_of(raw, width, le, out_le, a, b, out)
-        } else {
-            twos_of(raw, width, le, out_le, a, b, out)
-        }
-    } else if width == 4 {
-        if le {
-            if out_le {
-                twos_of(raw, width, le, out_le, a, b, out)
-            } else {
-                twos_of(raw, width, le, out_le, a, b, out)
-            }
-        } else if out_le {
-            twos_of(raw, width, le, out_le, a, b, out)
-        } else {
-            twos_of(raw, width, le, out_le, a, b, out)
-        }
-    } else if width == 8 {
-        if le {
-            if out_le {
-                twos_of(raw, width, le, out_le, a, b, out)
-            } else {
-                twos_of(raw, width, le, out_le, a, b, out)
-            }
-        } else if out_le {
-            twos_of(raw, width, le, out_le, a, b, out)
-        } else {
-            twos_of(raw, width, le, out_le, a, b, out)
-        }
-    } else {
-        twos_of(raw, width, le, out_le, a, b, out)
     }
 }

@@ -2,26 +2,71 @@
 -- Assumes nothing.
 use borrow.Author.Needs.{needs}
 use native.Mathlib.Omega.{arith}
+use mathlib.Core.Path.{_≡_, _∙_}
+use mathlib.Core.Bool.{false}
+use Prim.Native.Nat.{_≤_}
+use borrow.Author.Tests.{ltb-false}
 use lib.ListN.{length}
 use denote.Ref.{now}
 use Rattle.words.specs.Word.{Bytes}
 use Rattle.laws.proofs.Groups.{groups-words}
+use Rattle.laws.proofs.Says.{neither}
 use Rattle.rows.specs.Row.{oneRow}
-use Rattle.rows.proofs.Leading.{unpredicted}
+use Rattle.rows.proofs.Loops.{resumed-none}
+use Rattle.rows.proofs.Leading.{lead-fits, lead-on, lead-all, unpredicted}
 use Rattle.rows.proofs.transform_words.Statement.{statement}
 use Rattle.rows.proofs.transform_words.Tie as tie
 
 bytes : (c : tie.After-shared-slice-known) → Bytes (now (c .before .args .raw))
 bytes c i = omega (arith, c .shared-slice-known .given i)
 
+abbrev known : (c : tie.After-lead) → tie.After-shared-slice-known
+known c = c .before .before .before .before .before
+
+-- neither forward nor more than four channels
+few : (c : tie.Else2) → (c .before .before .before .before .args .forward ≡ false) × (c .before .before .before .before .args .channels ≤ 4)
+few c = let is = neither _ _ (c .if2 .left) in (is .0, ltb-false _ _ (is .1))
+
 pub transform-words-spec : {M : Type 1} → statement M
 transform-words-spec =
     tie.close
     (tie.spec
-    (λ c κs. search needs) (λ c κs. search needs) (λ c κs. search needs) (λ c. search needs)
-    (λ c. let gone = c .before .before in let arm = gone .before .before in rw (arm .before .if1 .taken, arm .if2 .taken) (gone .predict-words .ensures))
+    (λ c. let start = c .before .before .before .before in omega (arith, start .pre .step, start .good))
+    (λ c κs. lead-fits (c .before .before .before .before .before .pre))
+    (λ c κs.
+    let led = c .before .before .before in
+    let start = known led .before in
+    let args = start .args in
+    (start .pre .takes, lead-on (now (args .raw)) (bytes (known led)) (args .channels) (args .width) (args .le) (args .out-le) (args .forward) (now (args .out)) _ (start .pre) (led .lead .ensures)))
+    (λ c κs.
+    let arm = c .before in
+    let pre = arm .before .before .before .before .before .pre in
+    record { takes = pre .takes; fits = pre .fits; enough = pre .fits .channel; few = omega (arith, arm .if3 .taken) })
+    (λ c κs.
+    let arm = c .before in
+    let pre = arm .before .before .before .before .before .pre in
+    record { takes = pre .takes; fits = pre .fits; enough = omega (arith, arm .if3 .left); few = few (arm .before) .1 })
+    (λ c κs. search needs) (λ c. search needs)
+    (λ c.
+    let gone = c .before .before in
+    let led = gone .before .before .before .before in
+    let start = known led .before in
+    let args = start .args in
+    rw (led .before .before .before .if1 .taken) (lead-all (now (args .raw)) (bytes (known led)) (args .channels) (args .width) (args .le) (args .out-le) (args .forward) (now (args .out)) _ (start .pre) (led .lead .ensures) _ (gone .steps .ensures)))
     (λ c. search needs)
-    (λ c. let gone = c .before .before in let arm = gone .before .before in rw (arm .before .if1 .taken, arm .if2 .left) (gone .undo-words .ensures))
+    (λ c.
+    let summed = c .before .before in
+    let arm = summed .before .before .before in
+    let start = arm .before .before .before .before in
+    let args = start .args in
+    rw (arm .before .if1 .taken, few arm .0) (summed .narrow .ensures ∙ resumed-none (now (args .raw)) (args .channels) (args .width) (args .le) (args .out-le) (now (args .out)) 2 (start .pre .fits .channel)))
+    (λ c. search needs)
+    (λ c.
+    let summed = c .before .before in
+    let arm = summed .before .before .before in
+    let start = arm .before .before .before .before in
+    let args = start .args in
+    rw (arm .before .if1 .taken, few arm .0) (summed .wide .ensures ∙ resumed-none (now (args .raw)) (args .channels) (args .width) (args .le) (args .out-le) (now (args .out)) 4 (start .pre .fits .channel)))
     (λ c. search needs)
     (λ c.
     let gone = c .before .before in

@@ -1,4 +1,4 @@
--- `rows::trails::trails_of` meets its contract, at every width: what is stored up to `at` are the samples. Assumes nothing.
+-- `rows::trails::trails` meets its contract, at every width: what is stored up to `at` are the samples. Assumes nothing.
 use borrow.Author.Needs.{needs}
 use native.Mathlib.Omega.{arith}
 use Prim.Native.Nat.{_+_, _-_, _*_, _≤_}
@@ -10,8 +10,8 @@ use Rattle.words.specs.Word.{wordAt, plus}
 use Rattle.samples.specs.Sample.{sample}
 use Rattle.rows.specs.Row.{oneRow}
 use Rattle.rows.proofs.Loops.{Upto, led-upto, pixel-wide, trail-room, trail-turned, ended}
-use Rattle.rows.proofs.trails.trails_of.Statement.{statement}
-use Rattle.rows.proofs.trails.trails_of.Tie as tie
+use Rattle.rows.proofs.trails.trails.Statement.{statement}
+use Rattle.rows.proofs.trails.trails.Tie as tie
 
 abbrev Inv-loop : tie.InvT-loop
 Inv-loop raw channels width le out-le out₀ step at₀ out at =
@@ -38,8 +38,8 @@ room c = trail-room (start c .pre .1 .fits) (c .before .loop .inv .0) (c .before
 free : (c : tie.In-loop Inv-loop μ-loop) → c .before .loop .at + start c .args .width ≤ length (c .before .loop .out)
 free c = omega (arith, room c, c .before .loop .inv .0 .same, start c .pre .1 .fits .room)
 
-pub trails-of-spec : {M : Type 1} → statement M
-trails-of-spec =
+pub trails-spec : {M : Type 1} → statement M
+trails-spec =
     tie.close
     (tie.spec
     Inv-loop

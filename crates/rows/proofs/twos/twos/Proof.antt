@@ -1,4 +1,4 @@
--- `rows::twos::twos_of` meets its contract, at every width: what is stored up to `at` are the samples, and each local is its channel's sum so far.
+-- `rows::twos::twos` meets its contract, at every width: what is stored up to `at` are the samples, and each local is its channel's sum so far.
 -- Assumes nothing.
 use borrow.Author.Needs.{needs}
 use native.Mathlib.Nat.{zero-mod, add-mod-right}
@@ -11,8 +11,8 @@ use denote.Ref.{now}
 use Rattle.laws.proofs.Groups.{group-room}
 use Rattle.rows.specs.Row.{resumed}
 use Rattle.rows.proofs.Loops.{Upto, upto-none, carried, carried-start, next-sum, ended}
-use Rattle.rows.proofs.twos.twos_of.Statement.{statement}
-use Rattle.rows.proofs.twos.twos_of.Tie as tie
+use Rattle.rows.proofs.twos.twos.Statement.{statement}
+use Rattle.rows.proofs.twos.twos.Tie as tie
 
 abbrev Inv-loop : tie.InvT-loop
 Inv-loop raw width le out-le start-a start-b out₀ a₀ b₀ at₀ out a b at =
@@ -80,8 +80,8 @@ loop-again e =
       b-next .1,
     )
 
-pub twos-of-spec : {M : Type 1} → statement M
-twos-of-spec =
+pub twos-spec : {M : Type 1} → statement M
+twos-spec =
     tie.close
     (tie.spec
     Inv-loop

@@ -1,4 +1,4 @@
--- `rows::threes::threes_of` meets its contract, at every width: what is stored up to `at` are the samples, and each local is its channel's sum so far.
+-- `rows::threes::threes` meets its contract, at every width: what is stored up to `at` are the samples, and each local is its channel's sum so far.
 -- Assumes nothing.
 use borrow.Author.Needs.{needs}
 use native.Mathlib.Nat.{zero-mod, add-mod-right}
@@ -11,8 +11,8 @@ use denote.Ref.{now}
 use Rattle.laws.proofs.Groups.{group-room}
 use Rattle.rows.specs.Row.{resumed}
 use Rattle.rows.proofs.Loops.{Upto, upto-none, carried, carried-start, next-sum, ended}
-use Rattle.rows.proofs.threes.threes_of.Statement.{statement}
-use Rattle.rows.proofs.threes.threes_of.Tie as tie
+use Rattle.rows.proofs.threes.threes.Statement.{statement}
+use Rattle.rows.proofs.threes.threes.Tie as tie
 
 abbrev Inv-loop : tie.InvT-loop
 Inv-loop raw width le out-le start-a start-b start-c out₀ a₀ b₀ c₀ at₀ out a b c at =
@@ -89,8 +89,8 @@ loop-again e =
       c-next .1,
     )
 
-pub threes-of-spec : {M : Type 1} → statement M
-threes-of-spec =
+pub threes-spec : {M : Type 1} → statement M
+threes-spec =
     tie.close
     (tie.spec
     Inv-loop

@@ -1,4 +1,4 @@
--- `rows::fours::fours_of` meets its contract, at every width: what is stored up to `at` are the samples, and each local is its channel's sum so far.
+-- `rows::fours::fours` meets its contract, at every width: what is stored up to `at` are the samples, and each local is its channel's sum so far.
 -- Assumes nothing.
 use borrow.Author.Needs.{needs}
 use native.Mathlib.Nat.{zero-mod, add-mod-right}
@@ -11,8 +11,8 @@ use denote.Ref.{now}
 use Rattle.laws.proofs.Groups.{group-room}
 use Rattle.rows.specs.Row.{resumed}
 use Rattle.rows.proofs.Loops.{Upto, upto-none, carried, carried-start, next-sum, ended}
-use Rattle.rows.proofs.fours.fours_of.Statement.{statement}
-use Rattle.rows.proofs.fours.fours_of.Tie as tie
+use Rattle.rows.proofs.fours.fours.Statement.{statement}
+use Rattle.rows.proofs.fours.fours.Tie as tie
 
 abbrev Inv-loop : tie.InvT-loop
 Inv-loop raw width le out-le start-a start-b start-c start-d out₀ a₀ b₀ c₀ d₀ at₀ out a b c d at =
@@ -98,8 +98,8 @@ loop-again e =
       d-next .1,
     )
 
-pub fours-of-spec : {M : Type 1} → statement M
-fours-of-spec =
+pub fours-spec : {M : Type 1} → statement M
+fours-spec =
     tie.close
     (tie.spec
     Inv-loop

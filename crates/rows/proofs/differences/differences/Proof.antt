@@ -1,4 +1,4 @@
--- `rows::differences::differences_of` meets its contract, at every width: what is stored up to `at` are the differences. Assumes nothing.
+-- `rows::differences::differences` meets its contract, at every width: what is stored up to `at` are the differences. Assumes nothing.
 use borrow.Author.Needs.{needs}
 use native.Mathlib.Omega.{arith}
 use Prim.Native.Nat.{ℕ, _+_, _-_, _*_, _≤_}
@@ -11,8 +11,8 @@ use Rattle.words.proofs.Words.{word-below}
 use Rattle.samples.specs.Sample.{difference}
 use Rattle.rows.specs.Row.{oneRow}
 use Rattle.rows.proofs.Loops.{Upto, led-upto, trail-room, difference-turned, ended}
-use Rattle.rows.proofs.differences.differences_of.Statement.{statement}
-use Rattle.rows.proofs.differences.differences_of.Tie as tie
+use Rattle.rows.proofs.differences.differences.Statement.{statement}
+use Rattle.rows.proofs.differences.differences.Tie as tie
 
 abbrev Inv-loop : tie.InvT-loop
 Inv-loop raw channels width le out-le out₀ step at₀ out at =
@@ -38,8 +38,8 @@ bytes c i = omega (arith, c .before .before .before .shared-slice-known .given i
 room : (c : tie.In-loop Inv-loop μ-loop) → c .before .loop .at + start c .args .width ≤ length (now (start c .args .raw))
 room c = trail-room (start c .pre .1 .fits) (c .before .loop .inv .0) (c .before .loop .inv .1) (c .loop-test .taken)
 
-pub differences-of-spec : {M : Type 1} → statement M
-differences-of-spec =
+pub differences-spec : {M : Type 1} → statement M
+differences-spec =
     tie.close
     (tie.spec
     Inv-loop

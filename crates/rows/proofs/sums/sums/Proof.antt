@@ -1,4 +1,4 @@
--- `rows::sums::sums_of` meets its contract, at every width: what is stored up to `at` are the samples, and the local is the sum so far.
+-- `rows::sums::sums` meets its contract, at every width: what is stored up to `at` are the samples, and the local is the sum so far.
 -- Assumes nothing.
 use borrow.Author.Needs.{needs}
 use native.Mathlib.Omega.{arith}
@@ -9,8 +9,8 @@ use lib.ListN.{length}
 use denote.Ref.{now}
 use Rattle.rows.specs.Row.{resumed}
 use Rattle.rows.proofs.Loops.{Upto, upto-none, carried, carried-start, sum-room, next-sum, ended}
-use Rattle.rows.proofs.sums.sums_of.Statement.{statement}
-use Rattle.rows.proofs.sums.sums_of.Tie as tie
+use Rattle.rows.proofs.sums.sums.Statement.{statement}
+use Rattle.rows.proofs.sums.sums.Tie as tie
 
 abbrev Inv-loop : tie.InvT-loop
 Inv-loop raw width le out-le start out₀ sum₀ at₀ out sum at =
@@ -32,8 +32,8 @@ turn c = c .before .before .before
 room : (c : tie.In-loop Inv-loop μ-loop) → c .before .loop .at + start c .args .width ≤ length (now (start c .args .raw))
 room c = sum-room (start c .args .le) (start c .args .start ∷ []) (start c .pre .1) (c .before .loop .inv .0) (c .loop-test .taken)
 
-pub sums-of-spec : {M : Type 1} → statement M
-sums-of-spec =
+pub sums-spec : {M : Type 1} → statement M
+sums-spec =
     tie.close
     (tie.spec
     Inv-loop
