@@ -4,7 +4,7 @@ use mathlib.Core.Path.{_≡_, refl, sym, ap, _∙_}
 use mathlib.Core.Bool.{Bool, true, false, not, _||_, or-false}
 use mathlib.Core.List.{List}
 use Prim.Native.Nat.{ℕ, zero, suc, _+_, _-_, _/_, _%_, _≤_, _<_}
-use native.Mathlib.Nat.{mul-one}
+use native.Mathlib.Nat.{mul-one, add-zero, add-suc, add-assoc}
 use native.Mathlib.Decide.{decLt}
 use native.Mathlib.Omega.{arith}
 use borrow.Author.Tests.{eqb-true, eqb-false, eq-eqb, ne-eqb, not-true, not-false}
@@ -88,6 +88,25 @@ pub struck-one : (damage : List ℕ) (n : ℕ) → struck 1 damage n ≡ damaged
 unfolding struckAt
 struck-one damage n = ap (damaged damage) (omega (arith, mul-one n))
 
+pub struck-byte : (damage : List ℕ) (at : ℕ) → damaged damage at ≡ struckAt 1 damage at
+unfolding struckAt
+struck-byte damage at = ap (damaged damage) (sym (add-zero at))
+
+-- some bytes and the bytes after them
+or-together : (a b c : Bool) → (a || (b || c)) ≡ ((a || b) || c)
+or-together true b c = refl
+or-together false b c = refl
+
+any-after : (n m : ℕ) (f : ℕ → Bool) → (anyBelow n f || anyBelow m (λ p. f (n + p))) ≡ anyBelow (n + m) f
+any-after n zero f = or-false (anyBelow n f) ∙ ap (λ (k : ℕ). anyBelow k f) (sym (add-zero n))
+any-after n (suc m) f = or-together (anyBelow n f) (anyBelow m (λ p. f (n + p))) (f (n + m)) ∙ ap (λ (b : Bool). b || f (n + m)) (any-after n m f) ∙ ap (λ (k : ℕ). anyBelow k f) (sym (add-suc n m))
+
+pub struck-after : (n m : ℕ) (damage : List ℕ) (at : ℕ) → (struckAt n damage at || struckAt m damage (at + n)) ≡ struckAt (n + m) damage at
+unfolding struckAt
+struck-after n m damage at =
+    ap (λ (b : Bool). anyBelow n (λ p. damaged damage (at + p)) || b) (any-same m _ _ (λ p h. ap (damaged damage) (add-assoc at n p)))
+    ∙ any-after n m (λ p. damaged damage (at + p))
+
 -- a word is 0 exactly if none of its bytes is damaged
 pub struck-word : (width : ℕ) (damage : List ℕ) (at : ℕ) → not (eqb (wordAt damage at width true) 0) ≡ struckAt width damage at
 struck-word width damage at = by (struckAt width damage at) refl
@@ -97,14 +116,6 @@ struck-word width damage at = by (struckAt width damage at) refl
         let there = struck-where width damage at e in
         ap not (ne-eqb (wordAt damage at width true) 0 (λ z. damaged-hurt damage (at + there .place) (there .holds) (none-value width (λ p. getD damage (at + p) 0) z (there .place) (there .below))))
     by false e = ap not (eq-eqb (wordAt damage at width true) 0 (value-none width (λ p. getD damage (at + p) 0) (unstruck width damage at e)))
-
--- the mark of a sample's own word
-module _ (width : ℕ) (damage : List ℕ) (at word : ℕ) (is : word ≡ wordAt damage at width true) where
-  pub word-hurt : (word ≡ 0 → ⊥) → 1 ≡ markByte (struckAt width damage at)
-  word-hurt h = sym (ap (λ (b : Bool). markByte (not b)) (ne-eqb word 0 h)) ∙ ap (λ (x : ℕ). markByte (not (eqb x 0))) is ∙ ap markByte (struck-word width damage at)
-
-  pub word-sound : word ≡ 0 → 0 ≡ markByte (struckAt width damage at)
-  word-sound h = sym (ap (λ (b : Bool). markByte (not b)) (eq-eqb word 0 h)) ∙ ap (λ (x : ℕ). markByte (not (eqb x 0))) is ∙ ap markByte (struck-word width damage at)
 
 -- going back further than n changes nothing
 enough : (g : Strip) (predict : Bool) (some : 0 < g .channels) (w : ℕ → Bool) (a b n : ℕ) → n ≤ a → n ≤ b → tainted g predict w a n ≡ tainted g predict w b n

@@ -1,7 +1,7 @@
--- `damage::own::mark_at` meets its contract: a sample's word is 0 exactly if none of its bytes is damaged. Assumes nothing.
+-- `damage::own::mark_at` meets its contract: 1 exactly if a byte of the sample is damaged. Assumes nothing.
 use borrow.Author.Needs.{needs}
-use native.Mathlib.Omega.{arith}
-use Rattle.damage.proofs.Marking.{word-hurt, word-sound}
+use mathlib.Core.Path.{sym, ap, _∙_}
+use Rattle.damage.specs.Marks.{markByte}
 use Rattle.damage.proofs.own.mark_at.Statement.{statement}
 use Rattle.damage.proofs.own.mark_at.Tie as tie
 
@@ -10,5 +10,5 @@ mark-at-spec =
     tie.close
     (tie.spec
     (λ c κs. search needs)
-    (λ c. word-hurt _ _ _ _ (c .before .word .ensures) (λ z. omega (arith, c .if1 .taken)))
-    (λ c. word-sound _ _ _ _ (c .before .word .ensures) (omega (arith, c .if1 .left))))
+    (λ c. ap markByte (sym (c .if1 .taken) ∙ c .before .struck .ensures))
+    (λ c. ap markByte (sym (c .if1 .left) ∙ c .before .struck .ensures)))
