@@ -1,0 +1,132 @@
+//! The script `hamrisk` at the repository's root: what it installs is used as a C or C++ programmer would, and what it says where
+//! something is missing.
+
+use std::fs;
+use std::os::unix::fs::symlink;
+use std::path::{Path, PathBuf};
+use std::process::{Command, Output};
+
+fn root() -> &'static Path {
+    Path::new(env!("CARGO_MANIFEST_DIR")).parent().expect("the crate stands in the repository")
+}
+
+/// An empty folder of this test's own.
+fn folder(name: &str) -> PathBuf {
+    let folder = Path::new(env!("CARGO_TARGET_TMPDIR")).join(name);
+    let _ = fs::remove_dir_all(&folder);
+    fs::create_dir_all(&folder).expect("a folder can be made");
+    folder
+}
+
+fn said(output: &Output) -> String {
+    format!("{}{}", String::from_utf8_lossy(&output.stdout), String::from_utf8_lossy(&output.stderr))
+}
+
+fn tool(variable: &str, otherwise: &str) -> String {
+    std::env::var(variable).ok().filter(|v| !v.is_empty()).unwrap_or_else(|| otherwise.to_string())
+}
+
+/// README's example in C, and a `main` that has a row of zeros converted and marked, its fourth byte lost.
+fn example() -> String {
+    let readme = fs::read_to_string(root().join("README.md")).expect("README is there");
+    let code =
+        readme.split("```c\n").nth(1).and_then(|rest| rest.split("```").next()).expect("README has an example in C");
+    let main = "
+#include <stdio.h>
+
+int main(void) {
+    static uint8_t raw[1280], lost[1280], out[1280], doubtful[640];
+    size_t count = 0;
+    lost[3] = 1;
+    uint32_t refused = depths(raw, lost, sizeof raw, out, doubtful, &count);
+    printf(\"%u %zu\\n\", (unsigned)refused, count);
+    return 0;
+}
+";
+    code.to_string() + main
+}
+
+#[test]
+fn the_installed_library_serves_c_and_cpp() {
+    let here = folder("install");
+    let prefix = here.join("prefix");
+    let install = Command::new(root().join("hamrisk")).arg("install").arg(&prefix).output().expect("the script runs");
+    assert!(install.status.success(), "{}", said(&install));
+    for file in
+        ["bin/hamrisk", "include/hamrisk.h", "lib/libhamrisk.a", "lib/libhamrisk.so", "lib/pkgconfig/hamrisk.pc"]
+    {
+        assert!(prefix.join(file).exists(), "{file} was not installed");
+    }
+    fs::write(here.join("example.c"), example()).expect("a file can be written");
+    let flags = Command::new("pkg-config")
+        .args(["--cflags", "--libs", "hamrisk"])
+        .env("PKG_CONFIG_PATH", prefix.join("lib/pkgconfig"))
+        .output()
+        .expect("pkg-config is on the path");
+    assert!(flags.status.success(), "{}", said(&flags));
+    let flags = String::from_utf8(flags.stdout).expect("flags are text");
+    for (compiler, language) in [(tool("CC", "gcc"), "c"), (tool("CXX", "g++"), "c++")] {
+        let program = here.join(format!("example-{language}"));
+        let compiled = Command::new(&compiler)
+            .args(["-x", language, "example.c", "-x", "none", "-o"])
+            .arg(&program)
+            .args(flags.split_whitespace())
+            .current_dir(&here)
+            .output()
+            .expect("the compiler is on the path");
+        assert!(compiled.status.success(), "{}", said(&compiled));
+        let runner = tool("HAMRISK_RUNNER", "/usr/bin/env");
+        let run = Command::new(runner)
+            .arg(&program)
+            .env("LD_LIBRARY_PATH", prefix.join("lib"))
+            .output()
+            .expect("the program runs");
+        assert_eq!(said(&run), "0 639\n", "{language}");
+    }
+}
+
+/// The script in a folder where nothing is built, with these tools alone on its path.
+fn bare(name: &str, tools: &[&str]) -> Output {
+    let here = folder(name);
+    let path = here.join("bin");
+    fs::create_dir_all(here.join("tools")).expect("a folder can be made");
+    fs::create_dir_all(&path).expect("a folder can be made");
+    for file in ["hamrisk", "tools/machine"] {
+        fs::copy(root().join(file), here.join(file)).expect("a file can be copied");
+    }
+    for tool in ["sh", "dirname", "uname", "find", "head", "id"].iter().chain(tools) {
+        let found = std::env::split_paths(&std::env::var_os("PATH").expect("there is a path"))
+            .map(|p| p.join(tool))
+            .find(|p| p.exists());
+        symlink(found.unwrap_or_else(|| panic!("{tool} is not on the path")), path.join(tool))
+            .expect("a link can be made");
+    }
+    Command::new(here.join("hamrisk"))
+        .arg("demo")
+        .env("PATH", &path)
+        .env("HOME", &here)
+        .output()
+        .expect("the script runs")
+}
+
+#[test]
+fn without_the_toolchain_it_says_so() {
+    let output = bare("no-rt", &[]);
+    assert_eq!(output.status.code(), Some(69));
+    assert_eq!(
+        said(&output),
+        "hamrisk: rt is missing (it proves and compiles the library): put the Rattle toolchain's bin folder on the path\n"
+    );
+}
+
+#[test]
+fn without_apt_it_says_what_to_install() {
+    let output = bare("no-apt", &["rt"]);
+    assert_eq!(output.status.code(), Some(69), "{}", said(&output));
+    let words = said(&output);
+    assert!(
+        words.contains("cargo is missing (it compiles the command), and there is no apt-get to install it with"),
+        "{words}"
+    );
+    assert_eq!(words.lines().count(), 1, "{words}");
+}
