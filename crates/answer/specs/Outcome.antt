@@ -11,7 +11,7 @@ use Rattle.answer.specs.declared.Refusal.the-variants.{Unsupported, Inva
 use Rattle.answer.specs.declared.Done.{Done}
 use Rattle.answer.specs.declared.Done.the-variants as Done-is
 
--- document 01's number of a kind
+-- rule 1.1's number of a kind
 abbrev pub number : Refusal → ℕ
 number Unsupported = 1
 number Invalid = 2
@@ -53,12 +53,12 @@ abbrev pub xor : Bool → Bool → Bool
 xor true b = not b
 xor false b = b
 
--- the first fault that is found decides; with none, the work is done
+-- the first fault that is found decides; with none, the work is done (rule 1.2)
 abbrev pub unless : {A : Type 0} → List Fault → A → Outcome A
 unless [] a = done a
 unless (f ∷ fs) a = pick (f .found) (refused (f .kind)) (unless fs a)
 
--- a lent buffer after the call: the work at its front, or, on a refusal, as it was
+-- a lent buffer after the call: the work at its front, or, on a refusal, as it was (rules 1.3 and 1.4)
 abbrev pub after : {A : Type 0} → Outcome A → List ℕ → List ℕ → List ℕ
 after (done a) written old = written ++ drop (length written) old
 after (refused n) written old = old
@@ -68,7 +68,7 @@ pub record Promise {A : Type 0} (outcome : Outcome A) (written old : List ℕ) (
   pub answers : answer ≡ outcome
   pub leaves : new ≡ after outcome written old
 
--- document 01's number and values of an answer
+-- rule 1.1's number and the values of an answer
 abbrev pub doneOutcome : Done → Outcome (Unit {0})
 doneOutcome Done-is.Done = done tt
 doneOutcome (Done-is.Refused k) = refused (number k)

@@ -3,7 +3,7 @@ ghost use mathlib.Core.Path.{_≡_};
 ghost use mathlib.Core.List.{[], _∷_};
 ghost use Rattle.answer.specs.Outcome.{number as numberOf, faultOf, Step, InOrder};
 
-// The five kinds of refusal, in the order of document 01's numbers.
+// The five kinds of refusal, in the order of rule 1.1's numbers.
 pub enum Refusal {
     Unsupported,
     Invalid,
@@ -24,7 +24,7 @@ pub struct SampleAt(pub usize);
 // A position counted in bytes.
 pub struct ByteAt(pub usize);
 
-// Document 01's number of a kind.
+// Rule 1.1's number of a kind.
 pub fn number(kind: Refusal) -> u32
     ensures { λ r. ⌜ r ≡ numberOf kind ⌝ }
 {

@@ -1,5 +1,5 @@
 -- A layout as C has it: a list of numbers, four of them flags that are 0 or 1. Any other flag is Unsupported, in step 1 of the layout's faults, after
--- alpha; all of that step have this one number, so a flag can be looked at first (proofs/Flags.antt). Assumes nothing.
+-- alpha; all of that step have this one number, so a flag can be looked at first (rule 9.4; proofs/Flags.antt). Assumes nothing.
 use Prim.Native.Nat.{ℕ}
 use mathlib.Core.Path.{_≡_}
 use mathlib.Core.Bool.{Bool, true, false, not, _||_}

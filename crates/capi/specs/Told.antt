@@ -8,7 +8,7 @@ use Rattle.layout.specs.declared.RasterLayout.{RasterLayout}
 use Rattle.layout.specs.declared.Checked.{Checked}
 use Rattle.layout.specs.Layout.{checkedOutcome}
 
--- 0 for done, or document 01's number of the refusal
+-- 0 for done, or rule 1.1's number of the refusal
 abbrev pub status : {A : Type 0} → Outcome A → ℕ
 status (done a) = 0
 status (refused n) = n

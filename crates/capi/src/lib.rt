@@ -1,4 +1,4 @@
-// The C interface: a thin function for each call, which include/hamrisk.h declares. Each returns 0 for done or document 01's number of the
+// The C interface: a thin function for each call, which include/hamrisk.h declares. Each returns 0 for done or rule 1.1's number of the
 // refusal; a value comes back through a lent number, which a refusal leaves as it was.
 use answer::ByteAt;
 use answer::Done;
@@ -16,7 +16,7 @@ ghost use Rattle.swaps.specs.Swapped.{Swapped};
 ghost use Rattle.transport.specs.Moved.{Committed, Reversed};
 ghost use Rattle.capi.specs.Told.{status as statusOf, Told, Lent};
 
-// 0 for done, or document 01's number of the refusal.
+// 0 for done, or rule 1.1's number of the refusal.
 pub(crate) fn status(d: Done) -> u32
     ensures { λ r. ⌜ r ≡ statusOf (doneOutcome d) ⌝ }
 {

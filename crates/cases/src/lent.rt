@@ -2,7 +2,7 @@
 use crate::text;
 use answer::Done;
 
-// Document 01's number of an answer, 0 for done.
+// Rule 1.1's number of an answer, 0 for done.
 pub(crate) fn outcome(d: Done) -> u64 {
     match d {
         Done::Done => 0,

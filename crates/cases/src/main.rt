@@ -1,4 +1,4 @@
-// Runs document 01's cases, the lines of `stdin`, over the library; prints those that differ, and then one line of counts.
+// Runs rule 11.2's cases, the lines of `stdin`, over the library; prints those that differ, and then one line of counts.
 mod damage_cases;
 mod layout_cases;
 mod lent;

@@ -1,4 +1,4 @@
--- Damage marks, as document 01 has them: sample n is marked if one of its own bytes is damaged, or, when it takes from the sample
+-- Damage marks (rules 4.1 to 4.3): sample n is marked if one of its own bytes is damaged, or, when it takes from the sample
 -- `channels` before it, if that one is marked. And what a mark is to mean: two strips, alike where nothing is damaged, whose samples differ.
 -- Assumes nothing.
 use Prim.Native.Nat.{ℕ, zero, suc, _+_, _-_, _*_, _<_}
@@ -45,7 +45,7 @@ abbrev pub counted : ℕ → (ℕ → Bool) → ℕ
 counted zero f = 0
 counted (suc n) f = counted n f + markByte (f n)
 
--- two strips that the damage could be hiding: alike in every byte that is not damaged
+-- two strips that the damage could be hiding: alike in every byte that is not damaged (rule 4.2)
 pub record Alike (damage a b : List ℕ) : Type 0 where
   pub a-long : length a ≡ length damage
   pub b-long : length b ≡ length damage

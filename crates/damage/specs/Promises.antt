@@ -1,4 +1,4 @@
--- What `marks` promises: document 01's order of refusals; the marks and their count; and that a mark stands exactly where
+-- What `marks` promises (rule 4.4): the order of refusals; the marks and their count; and that a mark stands exactly where
 -- two strips, alike in every byte that is not damaged, have different samples. Assumes nothing.
 use Prim.Native.Nat.{ℕ, _/_, _<_}
 use mathlib.Core.Path.{_≡_}

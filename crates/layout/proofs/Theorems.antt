@@ -1,4 +1,4 @@
--- What document 01 asks of layouts: the check accepts exactly upstream's `valid` within the limits, and answers the only such record; the record check
+-- Rules 5.5 to 5.9: the check accepts exactly upstream's `valid` within the limits, and answers the only such record; the record check
 -- accepts what the check answers; `index` answers a place below the scratch length; the map offset is never a reason. Assumes nothing.
 use Prim.Native.Nat.{ℕ, _≤_, _<_}
 use mathlib.Core.Path.{_≡_, refl, sym, ap, subst, _∙_}

@@ -1,4 +1,4 @@
--- Layouts as document 01 has them: what a caller says, what follows from it, the faults in the document's order, and where a byte comes from.
+-- Layouts (rules 5.1 to 5.9): what a caller says, what follows from it, the faults in their order, and where a byte comes from.
 -- Assumes nothing.
 use Prim.Native.Nat.{ℕ, _+_, _-_, _*_, _/_, _%_, _≤_, _<_}
 use mathlib.Core.Path.{_≡_}
@@ -60,7 +60,7 @@ byteLimit = 1073741824
 abbrev pub oneTwoEight : ℕ → Bool
 oneTwoEight n = eqb n 1 || eqb n 2 || eqb n 8
 
--- step 2's rules: the clauses of `valid` over what a caller says
+-- step 2's rules (rule 5.4): the clauses of `valid` over what a caller says
 unfoldable pub eightRule : Fields → Bool
 eightRule f = not (eqb (f .bytes) 8) || (not (f .white) && not (f .palette) && eqb (f .alpha) 0 && eqb (f .slots) 1 && (eqb (f .ch) 1 || eqb (f .ch) 3))
 
@@ -73,7 +73,7 @@ paletteRule f = not (f .palette) || (eqb (f .ch) 3 && eqb (f .bytes) 1 && oneTwo
 unfoldable pub slotsRule : Fields → Bool
 slotsRule f = f .palette || (eqb (f .slots) 1 || eqb (f .slots) 8 && eqb (f .ch) 1 && eqb (f .bytes) 1 && eqb (f .alpha) 0)
 
--- document 01's three steps
+-- rule 5.3's three steps
 abbrev pub servedFaults : Fields → List Fault
 servedFaults f =
     unsupported (not (oneTwoEight (f .bytes)))
@@ -158,7 +158,7 @@ pub record SampleWithin (l : RasterLayout) (p c : ℕ) : Type 0 where
 abbrev pub indexFaults : RasterLayout → ℕ → List Fault
 indexFaults l k = recordFaults l ++ (invalid (leb (l .«output_len») k) ∷ [])
 
--- document 01's numbers and values of the answers
+-- the numbers (rule 1.1) and values of the answers
 abbrev pub checkedOutcome : Checked → Outcome RasterLayout
 checkedOutcome (Checked-is.Done l) = done l
 checkedOutcome (Checked-is.Refused k) = refused (number k)

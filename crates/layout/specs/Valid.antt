@@ -1,4 +1,4 @@
--- Upstream's `valid`, clause by clause, to be held beside raster_layout.rs; and document 01's limits. Theorems alone cite them. Assumes nothing.
+-- Upstream's `valid`, clause by clause, to be held beside raster_layout.rs; and rule 5.3's limits. Theorems alone cite them. Assumes nothing.
 use Prim.Native.Nat.{_+_, _-_, _*_, _/_, _≤_, _<_}
 use mathlib.Core.Path.{_≡_}
 use mathlib.Core.Bool.{true, false}

@@ -52,7 +52,7 @@ pub enum Place {
     Refused(Refusal),
 }
 
-// The three steps, in document 01's order. The third multiplies, so it waits for what the first shows.
+// The three steps, in rule 5.3's order. The third multiplies, so it waits for what the first shows.
 fn check_fields(f: Fields) -> Done
     ensures { λ r. ⌜ Step (layoutFaults f) r ⌝ }
 {

@@ -1,5 +1,5 @@
 -- One row of a picture whose bytes of the planes hold several samples or palette indices: the row rendered, and a bilevel row written.
--- What stands in one byte is of pixels' definitions; here is which byte, and the order of the refusals. Assumes nothing.
+-- What stands in one byte is of pixels' definitions; here is which byte, and the order of the refusals (rules 8.3 to 8.5). Assumes nothing.
 use Prim.Native.Nat.{ℕ, _+_, _-_, _*_, _/_, _%_, _^_, _≤_, _<_}
 use mathlib.Core.Path.{_≡_}
 use mathlib.Core.Bool.{Bool, true, not}

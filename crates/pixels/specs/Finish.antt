@@ -10,11 +10,11 @@ use Rattle.answer.specs.Table.{table, filled, stores}
 use Rattle.answer.specs.declared.Done.{Done}
 use Rattle.pixels.specs.Render.{straightColour}
 
--- every byte inverted; it never refuses
+-- every byte inverted; it never refuses (rule 8.1)
 abbrev pub Inverted : List ℕ → List ℕ → Type 0
 Inverted old new = new ≡ table (length old) (λ k. 255 - getD old k 0)
 
--- byte j of pixels whose last byte is their alpha
+-- byte j of pixels whose last byte is their alpha (rule 8.2)
 abbrev pub straightAt : List ℕ → ℕ → Bool → Bool → ℕ → ℕ
 straightAt old channels multiplied white j =
     pick (eqb (j % channels) (channels - 1)) (getD old j 0) (straightColour multiplied white (getD old j 0) (getD old (j - j % channels + channels - 1) 0))

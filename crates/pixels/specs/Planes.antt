@@ -1,4 +1,4 @@
--- Plane writing, which document 01 adds: the planes whose rendering is a picture. And the order of `write_planes`' refusals. Assumes nothing.
+-- Plane writing (rules 7.1 to 7.4): the planes whose rendering is a picture. And the order of `write_planes`' refusals. Assumes nothing.
 use Prim.Native.Nat.{ℕ, zero, suc, _+_, _-_, _*_, _/_, _%_}
 use mathlib.Core.Bool.{Bool, true, not, _&&_, _||_}
 use mathlib.Core.List.{List, [], _∷_, _++_}
@@ -48,7 +48,7 @@ abbrev pub twoLevels : ℕ → List ℕ → Bool
 twoLevels zero picture = true
 twoLevels (suc n) picture = twoLevels n picture && (eqb (getD picture n 0) 0 || eqb (getD picture n 0) 255)
 
--- document 01's order
+-- rule 7.3's order, past the record's faults
 abbrev pub planeFaults : RasterLayout → List ℕ → List ℕ → List Fault
 planeFaults l picture old =
     unsupported (l .fields .palette)

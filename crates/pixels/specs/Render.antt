@@ -1,4 +1,4 @@
--- Rendered bytes, as upstream's `converted` has them, with document 01's rules for what that only calls: where a byte comes from is the layout's
+-- Rendered bytes, as upstream's `converted` has them, with section 6's rules for what that only calls: where a byte comes from is the layout's
 -- `sourceIndex`. And the order of `render`'s refusals. Assumes nothing.
 use Prim.Native.Nat.{ℕ, _+_, _-_, _*_, _/_, _%_, _^_, min}
 use mathlib.Core.Bool.{Bool, not, _&&_}
@@ -75,7 +75,7 @@ converted l file raw k =
     pick (l .fields .palette) (mapByte l file (k % 3) (paletteIndex l (k / 3 % l .fields .w) (source l raw k)))
     (pick (eqb (l .fields .slots) 8) (bilevelByte (l .fields .white) (k % l .fields .w) (source l raw k)) (plainByte l raw k))
 
--- document 01's order, of a file part, planes and a picture so long
+-- rule 6.7's order, of a file part, planes and a picture so long
 abbrev pub drawFaults : RasterLayout → ℕ → ℕ → ℕ → List Fault
 drawFaults l file raw out =
     unsupported (eqb (l .fields .bytes) 8)

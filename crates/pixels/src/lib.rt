@@ -21,7 +21,7 @@ pub fn high(le: bool) -> usize
     if le { 1 } else { 0 }
 }
 
-// A colour that was multiplied by alpha, divided by it again: document 01's rule for alpha kind 1.
+// A colour that was multiplied by alpha, divided by it again: rule 6.5 for alpha kind 1.
 fn straighten(u: u8, a: u8) -> u8
     ensures { λ r. ⌜ r ≡ straightened u a ⌝ }
 {

@@ -1,4 +1,4 @@
-// Document 01 and upstream's `valid` on layouts, read slowly: a picture byte is found from its row, column and channel.
+// Section 5 of docs/RULES.md and upstream's `valid`, on layouts, read slowly: a picture byte is found from its row, column and channel.
 use crate::calls::*;
 use crate::whole::*;
 

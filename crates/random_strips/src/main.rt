@@ -1,4 +1,4 @@
-// A second reading of document 01, slow and plain, compared with the library on random strips, damage maps, layouts and pictures.
+// A second reading of docs/RULES.md, slow and plain, compared with the library on random strips, damage maps, layouts and pictures.
 mod calls;
 mod difference;
 mod inputs;

@@ -1,4 +1,4 @@
-// Document 01 on rendering and plane writing, read slowly: each byte worked out by itself.
+// Sections 6 and 7 of docs/RULES.md, rendering and plane writing, read slowly: each byte worked out by itself.
 use crate::calls::*;
 use crate::layout_reading::channel;
 use crate::layout_reading::column;

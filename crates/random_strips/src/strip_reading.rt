@@ -1,4 +1,4 @@
-// Document 01 on words and strips, read slowly: each sample is summed along its chain from its row's start, each byte worked out by itself.
+// Sections 2 and 3 of docs/RULES.md, read slowly: each sample is summed along its chain from its row's start, each byte worked out by itself.
 use crate::calls::*;
 use crate::whole::*;
 

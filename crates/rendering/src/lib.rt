@@ -74,7 +74,7 @@ fn map_beyond(l: RasterLayout, length: usize) -> bool
     length - l.fields.map < 6 * l.colors
 }
 
-// What is refused of a record without a fault, in document 01's order.
+// What is refused of a record without a fault, in rule 6.7's order.
 fn check_draw(l: RasterLayout, file_len: usize, raw_len: usize, out_len: usize) -> Done
     requires { ⌜ Colours l ⌝ }
     ensures { λ r. ⌜ Step (drawFaults l «file_len» «raw_len» «out_len») r ⌝ }

@@ -1,5 +1,5 @@
 -- What is promised of a strip's rows and of one row: conversion, and with `forward` forward prediction. A row is a strip of one row, so
--- the definitions are the strip's own. Assumes nothing.
+-- the definitions are the strip's own (rule 3.10). Assumes nothing.
 use Prim.Native.Nat.{ℕ, _+_, _*_, _%_, _≤_, _<_}
 use mathlib.Core.Path.{_≡_}
 use mathlib.Core.Bool.{Bool, true}

@@ -1,4 +1,4 @@
--- What this crate's functions promise: document 01's order of refusals, and each sample stored in the asked byte order. Assumes nothing.
+-- What is promised of strips (rules 3.6 to 3.11): the order of refusals, and each sample stored in the asked byte order. Assumes nothing.
 use Prim.Native.Nat.{ℕ, _*_, _%_}
 use mathlib.Core.Path.{_≡_}
 use mathlib.Core.Bool.{Bool, not}
@@ -11,7 +11,7 @@ use Rattle.answer.specs.declared.Done.{Done}
 use Rattle.words.specs.Promises.{served}
 use Rattle.samples.specs.Sample.{Strip, wordOf, sample, difference, storedAt}
 
--- the faults of a strip's geometry
+-- the faults of a strip's geometry (rule 3.6)
 abbrev pub stripFaults : ℕ → Strip → List Fault
 stripFaults bytes g =
     unsupported (not (served (g .width)))
@@ -37,7 +37,7 @@ abbrev pub Forwarded : List ℕ → Strip → Bool → Bool → Bool → List �
 Forwarded raw g predict le out-le old answer new =
     Promise (unless (convertFaults raw g old) tt) (table (length raw) (storedAt (g .width) out-le (difference g predict le raw))) old (doneOutcome answer) new
 
--- the words of a strip in another byte order
+-- the words of a strip in another byte order (rule 3.11)
 abbrev pub reorderFaults : List ℕ → ℕ → List ℕ → List Fault
 reorderFaults raw width old =
     unsupported (not (served width)) ∷ invalid (not (eqb (length raw % width) 0)) ∷ outputTooSmall (ltb (length old) (length raw)) ∷ []

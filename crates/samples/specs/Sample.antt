@@ -1,4 +1,4 @@
--- Samples of a strip, as document 01 has them: a sample is its input word, plus the sample `channels` before it in its row when
+-- Samples of a strip (rules 3.1 to 3.5): a sample is its input word, plus the sample `channels` before it in its row when
 -- prediction is on, modulo 256^width; forward prediction takes that one's word away. Assumes nothing.
 use Prim.Native.Nat.{ℕ, zero, suc, _-_, _*_, _/_, _%_, _<_}
 use mathlib.Core.Path.{_≡_}

@@ -1,4 +1,4 @@
--- What `swap_components` promises: each group of `width` bytes written backwards, widths 1 to 8; the refusals are document 01's, in its order.
+-- What `swap_components` promises: each group of `width` bytes written backwards, widths 1 to 8; the refusals are rule 2.8's, in its order.
 -- Bytes are moved, never read as numbers. Assumes nothing.
 use Prim.Native.Nat.{ℕ, _+_, _-_, _%_, _≤_, _<_}
 use mathlib.Core.Path.{_≡_}

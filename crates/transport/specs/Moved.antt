@@ -1,5 +1,5 @@
 -- What is promised of bytes that are moved and never read as numbers: a copy, and each byte's bits reversed.
--- The refusals are document 01's, in its order. Assumes nothing.
+-- Rules 2.9 and 2.10. Assumes nothing.
 use Prim.Native.Nat.{ℕ, _-_}
 use mathlib.Core.Path.{_≡_}
 use mathlib.Core.List.{List, [], _∷_}

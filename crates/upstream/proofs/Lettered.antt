@@ -1,4 +1,4 @@
--- Document 01's cases A to L, as one table of the definitions that the promises are made of: what is expected beside what is computed, and one
+-- Rule 11.1's cases A to L, as one table of the definitions that the promises are made of: what is expected beside what is computed, and one
 -- proof that the two columns are the same. Assumes nothing.
 use Prim.Native.Nat.{ℕ, _*_}
 use mathlib.Core.Path.{_≡_, refl}

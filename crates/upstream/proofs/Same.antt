@@ -200,7 +200,7 @@ valid-sound raw g v =
 pub valid-same : (raw : List ℕ) (g : Strip) → Exactly (Sound (stripFaults (length raw) g)) (Valid raw (g .row) (g .channels) (g .width))
 valid-same raw g = (sound-valid raw g, valid-sound raw g)
 
--- and the layout's exactly where the record check finds none, within document 01's limits
+-- and the layout's exactly where the record check finds none, within rule 5.3's limits
 pub record-sound-valid : (l : RasterLayout) → Sound (Ours.recordFaults l) → LayoutValid l × Within l
 record-sound-valid l s = record-valid l (finishing (Ours.recordFaults l) tt s)
 

@@ -1,5 +1,5 @@
 -- Upstream's definitions of raster_layout.rs, to be held beside the source; `valid` stands in layout/specs/Valid.antt. What the source only calls is
--- filled in: `word16` from TIFF 6.0, `power2` as its name says, `straight_color` from document 01. Differences are of natural numbers. Assumes nothing.
+-- filled in: `word16` from TIFF 6.0, `power2` as its name says, `straight_color` from rule 6.5. Differences are of natural numbers. Assumes nothing.
 use Prim.Native.Nat.{ℕ, _+_, _-_, _*_, _/_, _%_, _^_, min}
 use mathlib.Core.Bool.{Bool, true, false, not, _&&_, _||_}
 use mathlib.Core.List.{List}
@@ -28,7 +28,7 @@ paletteIndex l k byte =
     let shift = pick (eqb (l .fields .slots) 8) (7 - slot) (pick (eqb (l .fields .slots) 2) ((1 - slot) * 4) 0) in
     byte / power2 shift % l .colors
 
--- document 01's rule: u is v, or 255 - v with white; multiplied, 0 beside alpha 0, else 255 × u / a, held at 255
+-- rule 6.5: u is v, or 255 - v with white; multiplied, 0 beside alpha 0, else 255 × u / a, held at 255
 unfoldable pub straightColor : ℕ → ℕ → Bool → Bool → ℕ
 straightColor v a multiplied white =
     let u = pick white (255 - v) v in pick multiplied (pick (eqb a 0) 0 (min 255 (255 * u / a))) u

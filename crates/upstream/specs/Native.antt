@@ -1,5 +1,5 @@
 -- Upstream's definitions of native_samples.rs, and `value` of native_rgba.rs, to be held beside the source. `word16` and `word32`, which it only
--- calls, are TIFF 6.0's words; `digit` is document 01's. Differences are of natural numbers (`back-fits` and on, of Same). Assumes nothing.
+-- calls, are TIFF 6.0's words; `digit` is rule 2.2's. Differences are of natural numbers (`back-fits` and on, of Same). Assumes nothing.
 use Prim.Native.Nat.{ℕ, zero, suc, _+_, _-_, _*_, _/_, _%_, _^_, _≤_, _<_}
 use mathlib.Core.Path.{_≡_}
 use mathlib.Core.Bool.{Bool, true, false, not, _||_}
@@ -17,7 +17,7 @@ word32 s at le =
     pick le (getD s at 0 + 256 * getD s (at + 1) 0 + 65536 * getD s (at + 2) 0 + 16777216 * getD s (at + 3) 0)
     (16777216 * getD s at 0 + 65536 * getD s (at + 1) 0 + 256 * getD s (at + 2) 0 + getD s (at + 3) 0)
 
--- document 01: digit p of v is v / 256^p mod 256
+-- rule 2.2: digit p of v is v / 256^p mod 256
 abbrev pub scale : ℕ → ℕ
 scale p = 256 ^ p
 

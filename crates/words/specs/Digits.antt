@@ -2,7 +2,7 @@
 -- The laws over the base and the number of digits are in proofs/Digits.antt. Assumes nothing.
 use Prim.Native.Nat.{ℕ, zero, suc, _+_, _*_, _/_, _%_, _^_}
 
--- digit p of v: v / b^p mod b
+-- digit p of v: v / b^p mod b (rule 2.2)
 abbrev pub digit : ℕ → ℕ → ℕ → ℕ
 digit b p v = v / b ^ p % b
 

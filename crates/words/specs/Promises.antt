@@ -1,5 +1,5 @@
--- What this crate's functions promise: document 01's order of refusals, and the word that is there.
--- Each answer's definition gives document 01's number and values of its cases. Assumes nothing.
+-- What this crate's functions promise (rules 2.3 to 2.7): the order of refusals, and the word that is there.
+-- Each answer's definition gives rule 1.1's number and the values of its cases. Assumes nothing.
 use Prim.Native.Nat.{ℕ, _+_, _*_}
 use mathlib.Core.Path.{_≡_}
 use mathlib.Core.Bool.{Bool, false, not, _||_}

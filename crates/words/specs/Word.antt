@@ -1,5 +1,5 @@
 -- TIFF 6.0's words: the first byte is the least significant when `le`, the most significant otherwise. One definition for any width.
--- And sums and differences of words, modulo 256^width. Assumes nothing.
+-- And sums and differences of words, modulo 256^width. Rules 2.1 to 2.3. Assumes nothing.
 use Prim.{Unit}
 use Prim.Native.Nat.{ℕ, zero, suc, _+_, _-_, _/_, _%_, _^_, _<_}
 use mathlib.Core.Path.{_≡_}

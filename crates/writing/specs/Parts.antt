@@ -19,7 +19,7 @@ pub record LevelsAsked (l : RasterLayout) (picture : List ℕ) : Type 0 where
   pub bare : l .fields .palette ≡ false
   pub all : l .«output_len» ≤ length picture
 
--- the last of document 01's faults, the only one of a picture's bytes
+-- the last of rule 7.3's faults, the only one of a picture's bytes
 abbrev pub levelFaults : RasterLayout → List ℕ → List Fault
 levelFaults l picture = invalid (eqb (l .fields .slots) 8 && not (twoLevels (l .«output_len») picture)) ∷ []
 

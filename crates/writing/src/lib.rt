@@ -14,7 +14,7 @@ ghost use Rattle.layout.specs.Layout.{recordFaults};
 ghost use Rattle.pixels.specs.Planes.{planeFaults, writeFaults, Written};
 ghost use Rattle.writing.specs.Parts.{planar as planarOf, WriteServed, WrittenInto};
 
-// What is refused of a record without a fault, in document 01's order. The bytes of a picture are looked at last, and only if all of them are there.
+// What is refused of a record without a fault, in rule 7.3's order. The bytes of a picture are looked at last, and only if all of them are there.
 fn check_planes(l: RasterLayout, picture: &[u8], planes: &[u8]) -> Done
     requires { ⌜ Sound (recordFaults l) ⌝ }
     ensures { λ r. ⌜ Step (planeFaults l (now (picture .entry)) (now (planes .entry))) r ⌝ }

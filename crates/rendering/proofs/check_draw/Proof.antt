@@ -1,4 +1,4 @@
--- `rendering::check_draw` meets its contract: its tests are document 01's, in its order. Assumes nothing.
+-- `rendering::check_draw` meets its contract: its tests are rule 6.7's, in its order. Assumes nothing.
 use borrow.Author.Needs.{needs}
 use Rattle.rendering.proofs.check_draw.Statement.{statement}
 use Rattle.rendering.proofs.check_draw.Tie as tie

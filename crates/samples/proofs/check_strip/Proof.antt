@@ -1,4 +1,4 @@
--- `samples::check_strip` meets its promise: the tests are document 01's faults, in its order. Assumes nothing.
+-- `samples::check_strip` meets its promise: the tests are rule 3.6's faults, in its order. Assumes nothing.
 use borrow.Author.Needs.{needs}
 use borrow.Author.Tests.{eq-eqb, ne-eqb, lt-ltb, le-ltb, not-true, not-false}
 use mathlib.Core.Path.{_≡_, ap, _∙_, sym}

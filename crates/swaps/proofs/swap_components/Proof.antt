@@ -1,4 +1,4 @@
--- `swaps::swap_components` meets its promise: the tests are document 01's faults, in its order. Assumes nothing.
+-- `swaps::swap_components` meets its promise: the tests are rule 2.8's faults, in its order. Assumes nothing.
 use borrow.Author.Needs.{needs}
 use borrow.Author.Tests.{eq-eqb, ne-eqb, lt-ltb, le-ltb}
 use mathlib.Core.Path.{ap}

@@ -1,4 +1,4 @@
--- `words::read_word` meets its promise: the tests are document 01's two faults, in its order. Assumes nothing.
+-- `words::read_word` meets its promise: the tests are rule 2.4's two faults, in its order. Assumes nothing.
 use borrow.Author.Needs.{needs}
 use borrow.Author.Tests.{lt-ltb, le-ltb, not-true, not-false}
 use mathlib.Core.Path.{_≡_, ap, _∙_, sym}

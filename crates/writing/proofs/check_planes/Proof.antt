@@ -1,4 +1,4 @@
--- `writing::check_planes` meets its contract: the tests are document 01's, in its order, and then the picture's bytes. Assumes nothing.
+-- `writing::check_planes` meets its contract: the tests are rule 7.3's, in its order, and then the picture's bytes. Assumes nothing.
 use borrow.Author.Needs.{needs}
 use denote.Ref.{now}
 use lib.ListN.{take}

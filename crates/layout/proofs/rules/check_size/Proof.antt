@@ -1,4 +1,4 @@
--- `layout::rules::check_size` meets its contract: the tests are document 01's, in its order. Within the limits no product wraps. Assumes nothing.
+-- `layout::rules::check_size` meets its contract: the tests are rule 5.3's step 3, in order. Within the limits no product wraps. Assumes nothing.
 use borrow.Author.Tests.{lt-ltb, le-ltb}
 use native.Mathlib.Omega.{arith}
 use Prim.Native.Nat.{_≤_}
