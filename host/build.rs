@@ -6,6 +6,9 @@ use std::time::SystemTime;
 use std::{env, fs, io};
 
 fn main() {
+    if env::var("CARGO_CFG_TARGET_ARCH").as_deref() != Ok("x86_64") {
+        stop("the library is for x86-64: `./hamrisk` at the repository's root builds for it on any machine, and runs it under an emulator");
+    }
     let host = PathBuf::from(env::var_os("CARGO_MANIFEST_DIR").expect("cargo names the folder of the crate"));
     let root = host.parent().expect("the crate stands in the repository");
     let sources = [root.join("crates"), root.join("crates.txt")];
