@@ -255,7 +255,7 @@ fn clear_padding(l: &Layout, planes: &mut [u8]) {
 }
 
 #[test]
-fn the_cases_of_document_01() {
+fn the_cases_of_the_rules() {
     assert_eq!(rendered(&Layout::bilevel(9, 1), &[], &[0x80, 0x80]).unwrap(), [255, 0, 0, 0, 0, 0, 0, 0, 255]);
     let apart = Layout { separate: true, ..Layout::colour(2, 1) };
     assert_eq!(rendered(&apart, &[], &[1, 2, 3, 4, 5, 6]).unwrap(), [1, 3, 5, 2, 4, 6]);

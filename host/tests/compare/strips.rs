@@ -234,7 +234,7 @@ fn marks_are_what_damaged_bytes_can_change() {
 }
 
 #[test]
-fn the_cases_of_document_01() {
+fn the_cases_of_the_rules() {
     let strip = |row_bytes, channels, width| Strip { row_bytes, channels, width };
     let predicted = Coding { predict: true, ..Coding::default() };
     assert_eq!(
