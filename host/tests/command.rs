@@ -1,6 +1,6 @@
 //! The command over files: what each subcommand writes, what it says when it is refused, and that it leaves nothing behind.
 
-use hamrisk::{Coding, Strip};
+use hamrisk::{ByteOrder, Coding, Strip};
 use std::ffi::OsStr;
 use std::fs;
 use std::os::unix::ffi::OsStrExt;
@@ -111,7 +111,7 @@ fn large_files() {
     let mut raw: Vec<u8> = (0..70_000 / 3 * 3_000u32).map(|n| (n.wrapping_mul(n) >> 9) as u8).collect();
     let options = "--row-bytes 3000 --channels 3 --width 2 --predict";
     let samples = folder.written(&raw, &format!("convert in out {options}"));
-    let predict = Coding { predict: true, ..Coding::default() };
+    let predict = Coding { from: ByteOrder::Little, to: ByteOrder::Little, predict: true };
     assert!(samples == hamrisk::converted(&raw, strip, predict).unwrap());
     assert!(folder.written(&samples, &format!("forward in out {options}")) == raw);
     let damage: Vec<u8> = raw.iter().map(|&byte| u8::from(byte == 77)).collect();

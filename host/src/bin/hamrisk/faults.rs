@@ -144,7 +144,7 @@ fn grey_byte(l: &Layout, picture: &[u8]) -> Option<Fault> {
 #[cfg(test)]
 mod tests {
     use super::*;
-    use hamrisk::{check_strip, rendered, swap_components, written};
+    use hamrisk::{check_strip, rendered, swap_components, written, ByteOrder};
 
     /// The fault that is named is one that leads to the library's refusal; without a refusal there is none.
     #[track_caller]
@@ -189,7 +189,17 @@ mod tests {
             let slots = [1, 2, 8, 9][pick(4)];
             let alpha = pick(4);
             let [palette, separate, white] = flags(pick(8));
-            let l = Layout { ch, bytes, slots, alpha, palette, separate, white, map: 3, ..Layout::grey(w, h) };
+            let l = Layout {
+                ch,
+                bytes,
+                slots,
+                alpha,
+                palette,
+                separate,
+                white,
+                map: 3,
+                ..Layout::grey(w, h, ByteOrder::Big)
+            };
             for length in [0, 2, 12, 100, 1539] {
                 let content = [7; 1539];
                 let some = &content[..length];
