@@ -3,6 +3,7 @@
 mod by_hand;
 mod libtiff;
 
+use hamrisk::limits::MOST_SIDE;
 use hamrisk::{ByteOrder, Coding, Layout, Strip};
 use libtiff::{Libtiff, Picture};
 use std::cell::RefCell;
@@ -257,10 +258,10 @@ fn kinds() -> Vec<(&'static str, Layout)> {
     ]
 }
 
-/// About n bytes of picture, 1024 columns where the rows do not pass the limit of 16,384.
+/// About n bytes of picture, 1024 columns where the rows do not pass their limit.
 fn sized(l: Layout, n: usize) -> Layout {
     let pixels = n / (l.ch * l.bytes);
-    let w = (pixels / 16384 + 1).max(1024);
+    let w = (pixels / MOST_SIDE + 1).max(1024);
     Layout { w, h: pixels / w, ..l }
 }
 

@@ -24,6 +24,7 @@
 
 #[allow(unsafe_code)]
 mod ffi;
+pub mod limits;
 mod owned;
 mod types;
 

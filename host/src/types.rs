@@ -128,7 +128,7 @@ pub struct Layout {
 
 impl Layout {
     /// One channel of one byte, 0 black; the order counts once `bytes` is 2.
-    pub fn grey(w: usize, h: usize, order: ByteOrder) -> Layout {
+    pub const fn grey(w: usize, h: usize, order: ByteOrder) -> Layout {
         Layout {
             w,
             h,
@@ -145,17 +145,17 @@ impl Layout {
     }
 
     /// Three channels of one byte, side by side; the order counts once `bytes` is 2.
-    pub fn colour(w: usize, h: usize, order: ByteOrder) -> Layout {
+    pub const fn colour(w: usize, h: usize, order: ByteOrder) -> Layout {
         Layout { ch: 3, ..Layout::grey(w, h, order) }
     }
 
     /// One channel of a bit, 0 black; bits have no byte order, so either serves.
-    pub fn bilevel(w: usize, h: usize, order: ByteOrder) -> Layout {
+    pub const fn bilevel(w: usize, h: usize, order: ByteOrder) -> Layout {
         Layout { slots: 8, ..Layout::grey(w, h, order) }
     }
 
     /// Indices of colours, `slots` in a byte, with the palette at byte `map` of the file; the order is the palette's.
-    pub fn indexed(w: usize, h: usize, slots: usize, map: usize, order: ByteOrder) -> Layout {
+    pub const fn indexed(w: usize, h: usize, slots: usize, map: usize, order: ByteOrder) -> Layout {
         Layout { slots, palette: true, map, ..Layout::colour(w, h, order) }
     }
 }

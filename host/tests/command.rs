@@ -177,7 +177,7 @@ fn refusals_name_the_number() {
     let folder = Folder::new("refusals");
     let raw = [0; 12];
     for (line, status, words) in [
-        ("convert in out --row-bytes 7 --channels 3 --width 3 --predict", 1, "width 3 is none of 1, 2, 4 and 8"),
+        ("convert in out --row-bytes 7 --channels 3 --width 3 --predict", 1, "width 3 is not 1, 2, 4 or 8"),
         ("forward in out --row-bytes 7 --channels 65 --width 2 --predict", 1, "channels 65 is not 1 to 64"),
         ("marks in out --row-bytes 0 --channels 3 --width 2 --no-predict", 1, "row bytes 0 is not served"),
         (
@@ -189,7 +189,7 @@ fn refusals_name_the_number() {
         ("swap in out --width 9", 1, "width 9 is not 1 to 8"),
         ("swap in out --width 0", 1, "width 0 is not 1 to 8"),
         ("swap in out --width 5", 2, "length 12 is no multiple of width 5"),
-        ("render in out --w 2 --h 2 --bytes 4", 1, "bytes 4 is none of 1, 2 and 8"),
+        ("render in out --w 2 --h 2 --bytes 4", 1, "bytes 4 is not 1, 2 or 8"),
         ("render in out --w 2 --h 2 --ch 3 --bytes 8", 1, "bytes 8 is not rendered"),
         ("render in out --w 2 --h 0", 2, "h 0 leaves no picture"),
         ("render in out --w 2 --h 2 --alpha 2 --ch 3", 2, "alpha 2 needs ch 2 or 4, not 3"),
