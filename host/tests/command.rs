@@ -51,6 +51,12 @@ impl Folder {
         bytes
     }
 
+    /// Runs a command line that is wrong in this way.
+    #[track_caller]
+    fn wrong(&self, call: &str, rest: &str, words: &str) {
+        self.refused(&[0; 8], &format!("{call} {rest}"), 64, &format!("{call}: {words}; see hamrisk {call} --help"));
+    }
+
     /// Runs the command on `in`, which it must refuse with these words; an `out` that was there stays.
     #[track_caller]
     fn refused(&self, input: &[u8], line: &str, status: i32, words: &str) {
@@ -77,11 +83,14 @@ impl Drop for Folder {
 fn convert_and_forward() {
     let folder = Folder::new("convert");
     let raw = [0x01, 0x00, 0x02, 0x00, 0xFF, 0xFF];
-    let samples = folder.written(&raw, "convert in out --row-bytes 6 --channels 1 --width 2 --predict --to be");
+    let samples =
+        folder.written(&raw, "convert in out --row-bytes 6 --channels 1 --width 2 --predict --from le --to be");
     assert_eq!(samples, [0x00, 0x01, 0x00, 0x03, 0x00, 0x02]);
-    let back = folder.written(&samples, "forward --predict --from=be --width=2 --channels=1 --row-bytes=6 in out");
+    let back =
+        folder.written(&samples, "forward --predict --from=be --to=le --width=2 --channels=1 --row-bytes=6 in out");
     assert_eq!(back, raw);
-    let plain = folder.written(&raw, "convert in out --row-bytes 6 --channels 3 --width 2 --no-predict");
+    let plain =
+        folder.written(&raw, "convert in out --row-bytes 6 --channels 3 --width 2 --no-predict --from be --to be");
     assert_eq!(plain, raw);
     let in_place = "convert in in --row-bytes 2 --channels 1 --width 1 --predict";
     folder.put("in", &[5, 251, 7, 1]);
@@ -109,7 +118,8 @@ fn large_files() {
     let folder = Folder::new("large");
     let strip = Strip { row_bytes: 3_000, channels: 3, width: 2 };
     let mut raw: Vec<u8> = (0..70_000 / 3 * 3_000u32).map(|n| (n.wrapping_mul(n) >> 9) as u8).collect();
-    let options = "--row-bytes 3000 --channels 3 --width 2 --predict";
+    let geometry = "--row-bytes 3000 --channels 3 --width 2 --predict";
+    let options = &format!("{geometry} --from le --to le");
     let samples = folder.written(&raw, &format!("convert in out {options}"));
     let predict = Coding { from: ByteOrder::Little, to: ByteOrder::Little, predict: true };
     assert!(samples == hamrisk::converted(&raw, strip, predict).unwrap());
@@ -118,7 +128,7 @@ fn large_files() {
     let (marks, count) = hamrisk::marked(&damage, strip, true).unwrap();
     folder.put("in", &damage);
     let said = format!("{count} of {} samples marked\n", marks.len());
-    assert_eq!(folder.run(&format!("marks in out {options}")), (0, said, String::new()));
+    assert_eq!(folder.run(&format!("marks in out {geometry}")), (0, said, String::new()));
     assert!(folder.get("out") == marks);
     let mut swapped = vec![0; raw.len()];
     hamrisk::swap_components(&raw, 5, &mut swapped).unwrap();
@@ -162,8 +172,9 @@ fn render_and_planes() {
 fn render_with_a_palette() {
     let folder = Folder::new("palette");
     folder.put("colours", &[9, 10, 0, 20, 0, 30, 0, 40, 0, 50, 0, 60, 0]);
-    let line = "render in out --w 2 --h 1 --ch 3 --slots 8 --palette --file colours --map 1";
+    let line = "render in out --w 2 --h 1 --ch 3 --slots 8 --palette --file colours --map 1 --be";
     assert_eq!(folder.written(&[0x40], line), [10, 30, 50, 20, 40, 60]);
+    assert_eq!(folder.written(&[0x40], &line.replace("--be", "--le")), [0; 6]);
     folder.refused(
         &[0x40],
         &line.replace("--map 1", "--map 2"),
@@ -177,11 +188,19 @@ fn refusals_name_the_number() {
     let folder = Folder::new("refusals");
     let raw = [0; 12];
     for (line, status, words) in [
-        ("convert in out --row-bytes 7 --channels 3 --width 3 --predict", 1, "width 3 is not 1, 2, 4 or 8"),
-        ("forward in out --row-bytes 7 --channels 65 --width 2 --predict", 1, "channels 65 is not 1 to 64"),
+        (
+            "convert in out --row-bytes 7 --channels 3 --width 3 --predict --from le --to be",
+            1,
+            "width 3 is not 1, 2, 4 or 8",
+        ),
+        (
+            "forward in out --row-bytes 7 --channels 65 --width 2 --predict --from le --to be",
+            1,
+            "channels 65 is not 1 to 64",
+        ),
         ("marks in out --row-bytes 0 --channels 3 --width 2 --no-predict", 1, "row bytes 0 is not served"),
         (
-            "convert in out --row-bytes 7 --channels 3 --width 2 --predict",
+            "convert in out --row-bytes 7 --channels 3 --width 2 --predict --from le --to be",
             2,
             "row bytes 7 is no multiple of channels 3 × width 2 (6)",
         ),
@@ -189,14 +208,14 @@ fn refusals_name_the_number() {
         ("swap in out --width 9", 1, "width 9 is not 1 to 8"),
         ("swap in out --width 0", 1, "width 0 is not 1 to 8"),
         ("swap in out --width 5", 2, "length 12 is no multiple of width 5"),
-        ("render in out --w 2 --h 2 --bytes 4", 1, "bytes 4 is not 1, 2 or 8"),
-        ("render in out --w 2 --h 2 --ch 3 --bytes 8", 1, "bytes 8 is not rendered"),
+        ("render in out --w 2 --h 2 --bytes 4 --le", 1, "bytes 4 is not 1, 2 or 8"),
+        ("render in out --w 2 --h 2 --ch 3 --bytes 8 --be", 1, "bytes 8 is not rendered"),
         ("render in out --w 2 --h 0", 2, "h 0 leaves no picture"),
         ("render in out --w 2 --h 2 --alpha 2 --ch 3", 2, "alpha 2 needs ch 2 or 4, not 3"),
         ("render in out --w 13 --h 1", 3, "the planes have 12 bytes and need 13"),
         ("render in out --w 16385 --h 1", 5, "w 16385 is above 16384"),
         (
-            "planes in out --w 16384 --h 16384 --ch 4 --bytes 2",
+            "planes in out --w 16384 --h 16384 --ch 4 --bytes 2 --be",
             5,
             "w 16384 × h 16384 × ch 4 × bytes 2 is 2147483648, above 1073741824",
         ),
@@ -211,6 +230,62 @@ fn refusals_name_the_number() {
     late[10] = 7;
     let words = "planes refused: 2 Invalid: byte 10 of the picture, row 2 and column 2, is 7, neither 0 nor 255";
     folder.refused(&late, "planes in out --w 4 --h 3 --slots 8", 2, words);
+}
+
+/// What is missing, and why it is wanted: no byte order is taken for granted.
+#[test]
+fn a_byte_order_has_to_be_said() {
+    let folder = Folder::new("orders");
+    let strip = |width| format!("in out --row-bytes 8 --channels 1 --width {width} --predict");
+    for call in ["convert", "forward"] {
+        for width in [2, 4, 8] {
+            for (given, missing) in [("", "from"), ("--to le", "from"), ("--to be", "from"), ("--from be", "to")] {
+                let words = format!("--{missing} is missing: width {width} wants a byte order, le or be");
+                folder.wrong(call, &format!("{} {given}", strip(width)), &words);
+            }
+        }
+        folder.wrong(call, &format!("{} --from x", strip(1)), "--from wants le or be, not 'x'");
+    }
+    for call in ["render", "planes"] {
+        let words = "--le or --be is missing: bytes 2 wants a byte order";
+        folder.wrong(call, "in out --w 1 --h 1 --bytes 2", words);
+        let words = "one of --le and --be is wanted, not both";
+        folder.wrong(call, "in out --w 1 --h 1 --bytes 2 --le --be", words);
+        let words = "--le or --be is missing: a palette, with 2 bytes to a colour, wants a byte order";
+        folder.wrong(call, "in out --w 1 --h 1 --ch 3 --palette", words);
+    }
+}
+
+/// Samples of one byte have no order: none is asked for, and one that is given changes nothing.
+#[test]
+fn one_byte_has_no_order() {
+    let folder = Folder::new("no-order");
+    let strip = "in out --row-bytes 2 --channels 1 --width 1 --predict";
+    for orders in ["", "--from be", "--to be", "--from be --to le", "--from le --to le"] {
+        assert_eq!(folder.written(&[5, 251, 7, 1], &format!("convert {strip} {orders}")), [5, 0, 7, 8]);
+        assert_eq!(folder.written(&[5, 0, 7, 8], &format!("forward {strip} {orders}")), [5, 251, 7, 1]);
+    }
+    for order in ["", "--le", "--be"] {
+        let layout = format!("in out --w 2 --h 1 --ch 3 --separate {order}");
+        assert_eq!(folder.written(&[1, 2, 3, 4, 5, 6], &format!("render {layout}")), [1, 3, 5, 2, 4, 6]);
+        assert_eq!(folder.written(&[1, 3, 5, 2, 4, 6], &format!("planes {layout}")), [1, 2, 3, 4, 5, 6]);
+    }
+}
+
+/// Depth of two bytes through one command and the next, in each order.
+#[test]
+fn depth_keeps_its_value_from_command_to_command() {
+    let folder = Folder::new("depth");
+    for (order, samples) in [("le", [0x34, 0x12, 0x78, 0x56]), ("be", [0x12, 0x34, 0x56, 0x78])] {
+        let strip = format!("in out --row-bytes 4 --channels 1 --width 2 --predict --from {order} --to {order}");
+        let words = folder.written(&samples, &format!("forward {strip}"));
+        let depths = folder.written(&words, &format!("convert {strip}"));
+        assert_eq!(depths, samples);
+        let layout = format!("in out --w 2 --h 1 --bytes 2 --{order}");
+        let picture = folder.written(&depths, &format!("render {layout}"));
+        assert_eq!(picture, [0x12, 0x34, 0x56, 0x78]);
+        assert_eq!(folder.written(&picture, &format!("planes {layout}")), samples);
+    }
 }
 
 #[test]
@@ -230,13 +305,15 @@ fn wrong_command_lines_end_with_64() {
         "swap in out --width -2",
         "swap in out --width 2 --width 2",
         "swap in out --width 99999999999999999999",
-        "convert in out --row-bytes 6 --channels 1 --width 2",
-        "convert in out --row-bytes 6 --channels 1 --width 2 --predict --no-predict",
-        "convert in out --row-bytes 6 --channels 1 --width 2 --predict=yes",
-        "convert in out --row-bytes 6 --channels 1 --width 2 --predict --from big",
-        "convert in out --row-bytes 6 --channels 1 --predict",
+        "convert in out --row-bytes 6 --channels 1 --width 2 --from le --to le",
+        "convert in out --row-bytes 6 --channels 1 --width 2 --from le --to le --predict --no-predict",
+        "convert in out --row-bytes 6 --channels 1 --width 2 --from le --to le --predict=yes",
+        "convert in out --row-bytes 6 --channels 1 --width 2 --to le --predict --from big",
+        "convert in out --row-bytes 6 --channels 1 --width 1 --to le --predict --from big",
+        "convert in out --row-bytes 6 --channels 1 --predict --from le --to le",
         "render in out --w 2",
-        "render in out --w 2 --h 1 --ch 3 --palette",
+        "render in out --w 2 --h 1 --bytes 2 --le --be",
+        "render in out --w 2 --h 1 --ch 3 --palette --le",
         "render in out --w 2 --h 1 --file in",
         "demo out",
     ] {

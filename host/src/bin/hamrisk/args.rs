@@ -99,6 +99,15 @@ impl Args {
         self.value(name).is_some()
     }
 
+    /// Which of two switches is given: whether it is the first one.
+    pub fn either(&self, one: &str, other: &str) -> Result<Option<bool>, Failure> {
+        match (self.has(one), self.has(other)) {
+            (true, true) => Err(self.wrong(format!("one of --{one} and --{other} is wanted, not both"))),
+            (false, false) => Ok(None),
+            (first, _) => Ok(Some(first)),
+        }
+    }
+
     /// A number that must be given.
     pub fn number(&self, name: &str) -> Result<usize, Failure> {
         let value = self.value(name).ok_or_else(|| self.wrong(format!("--{name} is missing")))?;

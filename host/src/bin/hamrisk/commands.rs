@@ -37,8 +37,8 @@ const PREDICT: &[Opt] = &[
 ];
 
 const ORDERS: &[Opt] = &[
-    opt("from", "le|be", "the byte order of IN: least (le) or most (be) significant byte first; le if not given"),
-    opt("to", "le|be", "the byte order of OUT; le if not given"),
+    opt("from", "le|be", "the byte order of IN: least (le) or most (be) significant byte first"),
+    opt("to", "le|be", "the byte order of OUT; both are required if width is above 1"),
 ];
 
 const LAYOUT: &[Opt] = &[
@@ -54,6 +54,11 @@ const LAYOUT: &[Opt] = &[
     opt("palette", "", "the planes hold indices of colours; needs --ch 3"),
     opt("separate", "", "each channel stands in a plane of its own"),
     opt("le", "", "the planes and the palette have their least significant byte first"),
+    opt(
+        "be",
+        "",
+        "they have the most significant one first; one of the two is required if bytes is 2 or with a palette",
+    ),
     opt("white", "", "0 is white; a palette ignores it"),
     opt(
         "alpha",
@@ -115,7 +120,8 @@ pub const COMMANDS: &[Command] = &[
     Command {
         syntax: Syntax { name: "planes", files: &["IN", "OUT"], groups: &[LAYOUT] },
         about: "write the planes whose rendering is the picture IN",
-        notes: "Palettes and alpha 1 are not written. Padding bits are 0.\n",
+        notes: "Channels of two bytes are read most significant byte first, as render writes them.\n\
+                Palettes and alpha 1 are not written. Padding bits are 0.\n",
         run: layouts::planes,
     },
     Command {

@@ -27,19 +27,34 @@ pub fn planes(args: &Args) -> Result<(), Failure> {
 }
 
 fn layout(args: &Args) -> Result<Layout, Failure> {
+    let (bytes, palette) = (args.number_or("bytes", 1)?, args.has("palette"));
     Ok(Layout {
         w: args.number("w")?,
         h: args.number("h")?,
         ch: args.number_or("ch", 1)?,
-        bytes: args.number_or("bytes", 1)?,
+        bytes,
         slots: args.number_or("slots", 1)?,
-        palette: args.has("palette"),
+        palette,
         separate: args.has("separate"),
-        order: if args.has("le") { ByteOrder::Little } else { ByteOrder::Big },
+        order: order(args, bytes, palette)?,
         white: args.has("white"),
         alpha: args.number_or("alpha", 0)?,
         map: args.number_or("map", 0)?,
     })
+}
+
+/// Has to be said of channels of more than one byte and of a palette, whose colours have two, as a wrong guess would swap
+/// every one without a word.
+fn order(args: &Args, bytes: usize, palette: bool) -> Result<ByteOrder, Failure> {
+    let missing = |what: &str| args.wrong(format!("--le or --be is missing: {what} wants a byte order"));
+    match args.either("le", "be")? {
+        Some(true) => Ok(ByteOrder::Little),
+        Some(false) => Ok(ByteOrder::Big),
+        None if bytes > 1 => Err(missing(&format!("bytes {bytes}"))),
+        None if palette => Err(missing("a palette, with 2 bytes to a colour,")),
+        // Channels of one byte are the same in both orders.
+        None => Ok(ByteOrder::Little),
+    }
 }
 
 /// The file that has the palette: wanted with one, and only then.
