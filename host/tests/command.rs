@@ -1,11 +1,14 @@
-//! The command over files: what each subcommand writes, what it says when it is refused, and that it leaves nothing behind.
+//! The command over files and streams: what each subcommand writes, what it says when it is refused, and that it leaves nothing behind.
+
+mod common;
 
 use hamrisk::{ByteOrder, Coding, Strip};
 use std::ffi::OsStr;
 use std::fs;
+use std::io::{ErrorKind, Write};
 use std::os::unix::ffi::OsStrExt;
 use std::path::{Path, PathBuf};
-use std::process::Command;
+use std::process::{Child, Command, Output, Stdio};
 
 /// A folder of its own for each test, removed at its end.
 struct Folder(PathBuf);
@@ -32,12 +35,24 @@ impl Folder {
         names
     }
 
-    /// Runs the command in this folder on the words of a line; answers its exit status, standard output and error.
+    /// The command in this folder on the words of a line.
+    fn command(&self, line: &str) -> Command {
+        let mut command = common::program(env!("CARGO_BIN_EXE_hamrisk"));
+        command.args(line.split_whitespace()).current_dir(&self.0);
+        command
+    }
+
+    /// Runs the command on the words of a line; answers its exit status, standard output and error.
     fn run(&self, line: &str) -> (i32, String, String) {
-        let mut command = Command::new(env!("CARGO_BIN_EXE_hamrisk"));
-        let done = command.args(line.split_whitespace()).current_dir(&self.0).output().unwrap();
-        let text = |bytes: Vec<u8>| String::from_utf8(bytes).unwrap();
-        (done.status.code().unwrap(), text(done.stdout), text(done.stderr))
+        let (status, output, error) = told(self.command(line).output().unwrap());
+        (status, String::from_utf8(output).unwrap(), error)
+    }
+
+    /// Runs the command with these bytes on standard input.
+    fn piped(&self, input: &[u8], line: &str) -> (i32, Vec<u8>, String) {
+        let mut child = start(self.command(line).stdin(Stdio::piped()));
+        feed(&mut child, input);
+        told(child.wait_with_output().unwrap())
     }
 
     /// Runs the command on `in`, and takes what it wrote to `out`.
@@ -77,6 +92,22 @@ impl Drop for Folder {
     fn drop(&mut self) {
         fs::remove_dir_all(&self.0).unwrap();
     }
+}
+
+/// An end: exit status, standard output and error.
+fn told(done: Output) -> (i32, Vec<u8>, String) {
+    (done.status.code().unwrap(), done.stdout, String::from_utf8(done.stderr).unwrap())
+}
+
+/// Starts a command whose standard output and error are kept.
+fn start(command: &mut Command) -> Child {
+    command.stdout(Stdio::piped()).stderr(Stdio::piped()).spawn().unwrap()
+}
+
+/// Writes all of standard input, and closes it. A command that is wrong does not read it.
+fn feed(child: &mut Child, input: &[u8]) {
+    let written = child.stdin.take().unwrap().write_all(input);
+    assert!(written.is_ok() || written.is_err_and(|error| error.kind() == ErrorKind::BrokenPipe));
 }
 
 #[test]
@@ -337,13 +368,122 @@ fn files_that_cannot_be_read_or_written_end_with_74() {
 }
 
 #[test]
+fn a_dash_is_standard_input_or_output() {
+    let folder = Folder::new("streams");
+    folder.put("in", &[1, 80]);
+    let reversed = |output: &[u8]| (0, output.to_vec(), String::new());
+    assert_eq!(folder.piped(&[1, 80], "reverse - -"), reversed(&[128, 10]));
+    assert_eq!(folder.piped(&[1, 80], "reverse -- - -"), reversed(&[128, 10]));
+    assert_eq!(folder.piped(&[], "reverse - -"), reversed(&[]));
+    assert_eq!(folder.piped(b"not read", "reverse in -"), reversed(&[128, 10]));
+    assert_eq!(folder.piped(&[1, 80], "reverse - out"), reversed(&[]));
+    assert_eq!(folder.get("out"), [128, 10]);
+    assert_eq!(folder.piped(&[1, 80], "reverse - ./-"), reversed(&[]));
+    assert_eq!(folder.piped(b"not read", "reverse ./- -"), reversed(&[1, 80]));
+    assert_eq!(folder.names(), ["-", "in", "out"]);
+}
+
+/// Each command, from standard input to standard output.
+#[test]
+fn every_command_stands_in_a_pipe() {
+    let folder = Folder::new("pipes");
+    let strip = "- - --row-bytes 4 --channels 1 --width 2 --predict";
+    let apart = "- - --w 2 --h 1 --ch 3 --separate";
+    folder.put("colours", &[10, 0, 20, 0, 30, 0, 40, 0, 50, 0, 60, 0]);
+    let palette = "--w 2 --h 1 --ch 3 --slots 8 --palette --be";
+    for (line, input, output) in [
+        (&*format!("convert {strip} --from le --to be"), &[1, 0, 2, 0][..], &[0, 1, 0, 3][..]),
+        (&format!("forward {strip} --from be --to le"), &[0, 1, 0, 3], &[1, 0, 2, 0]),
+        ("swap - - --width 3", &[1, 2, 3], &[3, 2, 1]),
+        ("reverse - -", &[1, 80], &[128, 10]),
+        (&format!("render {apart}"), &[1, 2, 3, 4, 5, 6], &[1, 3, 5, 2, 4, 6]),
+        (&format!("planes {apart}"), &[1, 3, 5, 2, 4, 6], &[1, 2, 3, 4, 5, 6]),
+        ("render - - --w 1 --h 1 --pnm", &[7], b"P5\n1 1\n255\n\x07"),
+        (&format!("render - - {palette} --file colours"), &[0x40], &[10, 30, 50, 20, 40, 60]),
+    ] {
+        assert_eq!(folder.piped(input, line), (0, output.to_vec(), String::new()), "{line}");
+    }
+    folder.put("in", &[0x40]);
+    let colours = folder.get("colours");
+    let from_stream = folder.piped(&colours, &format!("render in - {palette} --file -"));
+    assert_eq!(from_stream, (0, vec![10, 30, 50, 20, 40, 60], String::new()));
+}
+
+/// What is said goes to standard error where standard output has the bytes.
+#[test]
+fn marks_on_standard_output() {
+    let folder = Folder::new("marks-stream");
+    let line = "marks - - --row-bytes 4 --channels 1 --width 2 --predict";
+    let said = String::from("2 of 2 samples marked\n");
+    assert_eq!(folder.piped(&[1, 0, 0, 0], line), (0, vec![1, 1], said.clone()));
+    assert_eq!(folder.piped(&[1, 0, 0, 0], &format!("{line} --pgm")), (0, b"P5\n2 1\n255\n\xFF\xFF".to_vec(), said));
+}
+
+/// Two commands in a row, and more bytes than a pipe or a piece holds.
+#[test]
+fn one_command_feeds_the_next() {
+    let folder = Folder::new("chain");
+    let samples: Vec<u8> = (0..9_000_000u32).map(|n| (n.wrapping_mul(n) >> 9) as u8).collect();
+    folder.put("in", &samples);
+    let strip = "--row-bytes 3000 --channels 3 --width 2 --predict";
+    let mut first = start(&mut folder.command(&format!("forward in - {strip} --from be --to le")));
+    let words = first.stdout.take().unwrap();
+    let second = start(folder.command(&format!("convert - - {strip} --from le --to be")).stdin(words));
+    let (status, output, error) = told(second.wait_with_output().unwrap());
+    assert_eq!((status, error.as_str()), (0, ""));
+    assert!(output == samples);
+    assert!(first.wait().unwrap().success());
+}
+
+#[test]
+fn a_refusal_leaves_standard_output_empty() {
+    let folder = Folder::new("stream-refusals");
+    let strip = "--row-bytes 4 --channels 1 --width 2 --predict";
+    let layout = "--w 2 --h 1 --ch 3 --slots 8 --palette --be";
+    for (line, status, words) in [
+        ("swap - - --width 2".into(), 2, "swap refused: 2 Invalid: length 3 is no multiple of width 2"),
+        ("render - - --w 4 --h 1".into(), 3, "render refused: 3 Truncated: the planes have 3 bytes and need 4"),
+        (
+            format!("convert - - {strip} --to le"),
+            64,
+            "convert: --from is missing: width 2 wants a byte order, le or be; see hamrisk convert --help",
+        ),
+        (
+            format!("render - - {layout} --file -"),
+            64,
+            "render: IN and --file are both -, and standard input can be read only once; see hamrisk render --help",
+        ),
+    ] {
+        let line: String = line;
+        assert_eq!(folder.piped(&[1, 2, 3], &line), (status, vec![], format!("hamrisk: {words}\n")), "{line}");
+    }
+    assert!(folder.names().is_empty());
+}
+
+#[test]
+fn streams_that_cannot_be_read_or_written_end_with_74() {
+    let folder = Folder::new("stream-files");
+    folder.put("in", &[7; 100_000]);
+    let mut broken = start(folder.command("reverse - -").stdin(Stdio::piped()));
+    drop(broken.stdout.take());
+    feed(&mut broken, &[7; 100_000]);
+    let (status, _, error) = told(broken.wait_with_output().unwrap());
+    assert_eq!((status, error.as_str()), (74, "hamrisk: standard output: Broken pipe (os error 32)\n"));
+    let full = fs::File::options().write(true).open("/dev/full").unwrap();
+    let (status, _, error) = told(folder.command("reverse in -").stdout(full).output().unwrap());
+    assert_eq!((status, error.as_str()), (74, "hamrisk: standard output: No space left on device (os error 28)\n"));
+    let no_file = fs::File::open(&folder.0).unwrap();
+    let (status, _, error) = told(folder.command("reverse - -").stdin(no_file).output().unwrap());
+    assert_eq!((status, error.as_str()), (74, "hamrisk: standard input: Is a directory (os error 21)\n"));
+}
+
+#[test]
 fn names_that_are_no_text_and_names_after_two_dashes() {
     let folder = Folder::new("names");
     let odd = OsStr::from_bytes(b"\xFF\xFE");
     fs::write(folder.0.join(odd), [1, 80]).unwrap();
     let words = ["reverse".as_ref(), odd, "--".as_ref(), "--out".as_ref()];
-    let mut command = Command::new(env!("CARGO_BIN_EXE_hamrisk"));
-    assert!(command.args(words).current_dir(&folder.0).status().unwrap().success());
+    assert!(folder.command("").args(words).status().unwrap().success());
     assert_eq!(folder.get("--out"), [128, 10]);
 }
 

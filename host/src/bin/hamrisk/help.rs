@@ -3,18 +3,24 @@
 use crate::args::Opt;
 use crate::commands::{Command, COMMANDS};
 
+const STREAMS: &str = "\
+A file given as - is standard input, or for OUT standard output; what is said then goes to standard
+error. A file of that very name is ./-
+
+";
+
 const STATUS: &str = "\
 Exit status: 0 done; 1 Unsupported, 2 Invalid, 3 Truncated, 4 OutputTooSmall or 5 Limit if the library
-refuses; 64 for a wrong command line; 74 for a file that cannot be read or written. OUT is written only
-once all is done: a refusal leaves no file behind, and one that was there as it was.
+refuses; 64 for a wrong command line; 74 for a file or stream that cannot be read or written. OUT is
+written only once all is done: a refusal leaves no file behind, and one that was there as it was.
 ";
 
 pub fn overview() -> String {
-    let mut text = String::from("hamrisk: the sample layer of TIFF, proved, over files\n\n");
+    let mut text = String::from("hamrisk: the sample layer of TIFF, proved, over files and streams\n\n");
     for command in COMMANDS {
         text += &format!("  {:8} {}\n", command.syntax.name, command.about);
     }
-    text + "\nhamrisk COMMAND --help says what a command takes.\n\n" + STATUS
+    text + "\nhamrisk COMMAND --help says what a command takes.\n\n" + STREAMS + STATUS
 }
 
 pub fn of(command: &Command) -> String {
@@ -30,5 +36,6 @@ pub fn of(command: &Command) -> String {
         let about = served.map_or(about.to_string(), |served| about.replace("{}", &served.to_string()));
         text += &format!("  {:18} {about}\n", format!("--{name} {value}").trim_end());
     }
-    text + "\n" + STATUS
+    let streams = if command.syntax.files.is_empty() { "" } else { STREAMS };
+    text + "\n" + streams + STATUS
 }

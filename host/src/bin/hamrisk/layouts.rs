@@ -4,6 +4,7 @@ use crate::args::Args;
 use crate::failure::Failure;
 use crate::{faults, files, pictures};
 use hamrisk::{rendered, written, ByteOrder, Layout};
+use std::path::Path;
 
 pub fn render(args: &Args) -> Result<(), Failure> {
     let layout = layout(args)?;
@@ -59,9 +60,12 @@ fn order(args: &Args, bytes: usize, palette: bool) -> Result<ByteOrder, Failure>
 
 /// The file that has the palette: wanted with one, and only then.
 fn palette_file(args: &Args, layout: &Layout) -> Result<Vec<u8>, Failure> {
-    match (layout.palette, args.value("file")) {
+    match (layout.palette, args.value("file").map(Path::new)) {
         (false, None) => Ok(Vec::new()),
-        (true, Some(path)) => files::read(path.as_ref()),
+        (true, Some(path)) if files::is_stream(path) && files::is_stream(args.file(0)) => {
+            Err(args.wrong("IN and --file are both -, and standard input can be read only once".into()))
+        }
+        (true, Some(path)) => files::read(path),
         (true, None) => Err(args.wrong("--palette wants --file, which has the colours".into())),
         (false, Some(_)) => Err(args.wrong("--file is for a palette; --palette is missing".into())),
     }

@@ -1,4 +1,4 @@
-//! `hamrisk`: the calls of the library over files. See `hamrisk --help`.
+//! `hamrisk`: the calls of the library over files and streams. See `hamrisk --help`.
 //!
 //! A module uses only those further down, never one of its own line or above:
 //!
@@ -25,6 +25,7 @@ use args::Args;
 use commands::{Command, COMMANDS};
 use failure::Failure;
 use std::ffi::{OsStr, OsString};
+use std::io::{stderr, Write};
 use std::process::ExitCode;
 
 fn main() -> ExitCode {
@@ -32,7 +33,8 @@ fn main() -> ExitCode {
     match run(&words) {
         Ok(()) => ExitCode::SUCCESS,
         Err(failure) => {
-            eprintln!("hamrisk: {failure}");
+            // That it cannot be told is no reason to end with another status.
+            let _ = writeln!(stderr(), "hamrisk: {failure}");
             ExitCode::from(failure.status())
         }
     }

@@ -43,7 +43,7 @@ pub fn marks(args: &Args) -> Result<(), Failure> {
         pictures::white_where_marked(&mut marks);
     }
     files::write(args.file(1), &[header.as_bytes(), &marks])?;
-    files::print(&format!("{count} of {} samples marked\n", marks.len()))
+    files::print_beside(args.file(1), &format!("{count} of {} samples marked\n", marks.len()))
 }
 
 fn marked(damage: &[u8], strip: Strip, predict: bool) -> Result<(Vec<u8>, usize), Refusal> {
