@@ -63,7 +63,7 @@ pub const LAYOUT_CH: Served = Served::FromTo(1, 4);
 pub const LAYOUT_BYTES: Served = Served::OneOf(&[1, 2, 8]);
 
 /// `bytes` of a [`Layout`](crate::Layout) that is rendered or written.
-pub const PICTURE_BYTES: Served = Served::OneOf(&[1, 2]);
+pub const RENDERED_BYTES: Served = Served::OneOf(&[1, 2]);
 
 /// `slots` of a [`Layout`](crate::Layout).
 pub const LAYOUT_SLOTS: Served = Served::OneOf(&[1, 2, 8]);
@@ -78,4 +78,4 @@ pub const WRITTEN_ALPHAS: Served = Served::OneOf(&[0, 2]);
 pub const MOST_SIDE: usize = 16_384;
 
 /// The most bytes of the picture of a [`Layout`](crate::Layout).
-pub const MOST_PICTURE: usize = 1_073_741_824;
+pub const MOST_PICTURE_BYTES: usize = 1_073_741_824;

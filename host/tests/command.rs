@@ -1,4 +1,5 @@
-//! The command over files and streams: what each subcommand writes, what it says when it is refused, and that it leaves nothing behind.
+//! The command over files and streams: what each subcommand writes, what it says when it is refused, and that it leaves
+//! nothing behind.
 
 mod common;
 
@@ -497,7 +498,18 @@ fn help_of_each() {
         let (status, text, error) = folder.run(&format!("{name} --help"));
         assert_eq!((status, error.as_str()), (0, ""));
         assert!(text.starts_with(&format!("hamrisk {name}")), "{text}");
-        assert!(text.contains("Exit status"), "{text}");
+        assert!(text.contains("Exit status") && !text.contains("{}"), "{text}");
+        assert_eq!(text.contains("standard input"), name != "demo", "{text}");
+    }
+    for (name, served) in [
+        ("convert", "bytes of a sample, 1, 2, 4 or 8; required"),
+        ("marks", "samples of a pixel, 1 to 64; required"),
+        ("swap", "bytes of a group, 1 to 8; required"),
+        ("render", "columns of the picture, 1 to 16384; required"),
+        ("planes", "channels of a pixel of the picture, 1 to 4; 1 if not given"),
+    ] {
+        let (_, text, _) = folder.run(&format!("{name} --help"));
+        assert!(text.contains(served), "{text}");
     }
 }
 

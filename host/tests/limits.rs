@@ -1,6 +1,6 @@
 //! The numbers of `hamrisk::limits`, held to what the library itself serves and refuses.
 
-use hamrisk::limits::{self, Served, MOST_PICTURE, MOST_SIDE};
+use hamrisk::limits::{self, Served, MOST_PICTURE_BYTES, MOST_SIDE};
 use hamrisk::{
     check_layout, check_strip, read_word, rendered, swap_components, written, ByteAt, ByteOrder, Layout, Refusal, Strip,
 };
@@ -44,8 +44,8 @@ fn fields_of_a_layout() {
 fn pictures_rendered_and_written() {
     let content = [0; 16];
     let of_bytes = |bytes| Layout { bytes, ..DOT };
-    assert_served("bytes", limits::PICTURE_BYTES, |bytes| passes(rendered(&of_bytes(bytes), &[], &content)));
-    assert_served("bytes", limits::PICTURE_BYTES, |bytes| passes(written(&of_bytes(bytes), &content)));
+    assert_served("bytes", limits::RENDERED_BYTES, |bytes| passes(rendered(&of_bytes(bytes), &[], &content)));
+    assert_served("bytes", limits::RENDERED_BYTES, |bytes| passes(written(&of_bytes(bytes), &content)));
     let of_alpha = |alpha| Layout { ch: 2, alpha, ..DOT };
     assert_served("alpha", limits::LAYOUT_ALPHAS, |alpha| passes(rendered(&of_alpha(alpha), &[], &content)));
     assert_served("alpha", limits::WRITTEN_ALPHAS, |alpha| passes(written(&of_alpha(alpha), &content)));
@@ -68,7 +68,7 @@ fn bytes_of_a_picture() {
     for (ch, bytes) in [(4, 1), (2, 2), (3, 2), (4, 2), (1, 8), (3, 8)] {
         for w in 1..=MOST_SIDE {
             let row = w * ch * bytes;
-            let h = (MOST_PICTURE / row).min(MOST_SIDE);
+            let h = (MOST_PICTURE_BYTES / row).min(MOST_SIDE);
             assert_eq!(check_layout(&Layout { w, h, ch, bytes, ..DOT }).map(|d| d.output_length), Ok(row * h));
             if h < MOST_SIDE {
                 assert_eq!(check_layout(&Layout { w, h: h + 1, ch, bytes, ..DOT }), Err(Refusal::Limit));
@@ -76,6 +76,12 @@ fn bytes_of_a_picture() {
             }
         }
     }
-    assert_eq!(check_layout(&Layout { w: MOST_SIDE, h: MOST_SIDE, ch: 4, ..DOT }).unwrap().output_length, MOST_PICTURE);
-    assert!(nearest < MOST_PICTURE + 64, "the smallest picture that is refused has {nearest} bytes: too far above");
+    assert_eq!(
+        check_layout(&Layout { w: MOST_SIDE, h: MOST_SIDE, ch: 4, ..DOT }).unwrap().output_length,
+        MOST_PICTURE_BYTES
+    );
+    assert!(
+        nearest < MOST_PICTURE_BYTES + 64,
+        "the smallest picture that is refused has {nearest} bytes: too far above"
+    );
 }

@@ -45,7 +45,7 @@ const LAYOUT: &[Opt] = &[
     number("w", "columns of the picture, {}; required", SIDES),
     number("h", "rows of the picture, {}; required", SIDES),
     number("ch", "channels of a pixel of the picture, {}; 1 if not given", limits::LAYOUT_CH),
-    number("bytes", "bytes of a channel of the picture, {}; 1 if not given", limits::PICTURE_BYTES),
+    number("bytes", "bytes of a channel of the picture, {}; 1 if not given", limits::RENDERED_BYTES),
     number(
         "slots",
         "samples in a byte of the planes: 8 if bilevel, {} with a palette; 1 if not given",

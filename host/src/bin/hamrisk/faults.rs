@@ -1,7 +1,7 @@
 //! Which number a refusal is about: each call's faults in the order in which the library looks for them.
 
 use crate::failure::Fault;
-use hamrisk::limits::{self, Served, MOST_PICTURE, MOST_SIDE};
+use hamrisk::limits::{self, Served, MOST_PICTURE_BYTES, MOST_SIDE};
 use hamrisk::Refusal::{self, Invalid, Limit, Truncated, Unsupported};
 use hamrisk::{check_layout, Layout, Strip};
 
@@ -95,9 +95,9 @@ fn above_limit(l: &Layout) -> Option<Fault> {
         fault(w > MOST_SIDE, Limit, format!("w {w} is above {MOST_SIDE}")),
         fault(h > MOST_SIDE, Limit, format!("h {h} is above {MOST_SIDE}")),
         fault(
-            size > MOST_PICTURE as u128,
+            size > MOST_PICTURE_BYTES as u128,
             Limit,
-            format!("w {w} × h {h} × ch {ch} × bytes {bytes} is {size}, above {MOST_PICTURE}"),
+            format!("w {w} × h {h} × ch {ch} × bytes {bytes} is {size}, above {MOST_PICTURE_BYTES}"),
         ),
     ])
 }
@@ -109,7 +109,7 @@ pub fn of_render(l: &Layout, file_length: usize, raw_length: usize) -> Option<Fa
     let (map, colours, needed) = (l.map, d.colours, d.scratch_length);
     let end = map as u128 + 6 * colours as u128;
     first([
-        fault(!limits::PICTURE_BYTES.has(l.bytes), Unsupported, format!("bytes {} is not rendered", l.bytes)),
+        fault(!limits::RENDERED_BYTES.has(l.bytes), Unsupported, format!("bytes {} is not rendered", l.bytes)),
         fault(
             l.palette && end > file_length as u128,
             Truncated,
@@ -126,7 +126,7 @@ pub fn of_planes(l: &Layout, picture: &[u8]) -> Option<Fault> {
     let (length, needed) = (picture.len(), d.output_length);
     let numbers = first([
         fault(l.palette, Unsupported, "a palette is not written"),
-        fault(!limits::PICTURE_BYTES.has(l.bytes), Unsupported, format!("bytes {} is not written", l.bytes)),
+        fault(!limits::RENDERED_BYTES.has(l.bytes), Unsupported, format!("bytes {} is not written", l.bytes)),
         fault(!limits::WRITTEN_ALPHAS.has(l.alpha), Unsupported, format!("alpha {} is not written", l.alpha)),
         fault(length < needed, Truncated, format!("the picture has {length} bytes and needs {needed}")),
     ]);
