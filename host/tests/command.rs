@@ -502,7 +502,7 @@ fn help_of_each() {
         assert_eq!(text.contains("standard input"), name != "demo", "{text}");
     }
     for (name, served) in [
-        ("convert", "bytes of a sample, 1, 2, 4 or 8; required"),
+        ("convert", "bytes of a sample: 1, 2, 4 or 8; required"),
         ("marks", "samples of a pixel, 1 to 64; required"),
         ("swap", "bytes of a group, 1 to 8; required"),
         ("render", "columns of the picture, 1 to 16384; required"),

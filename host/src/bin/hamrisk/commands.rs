@@ -28,7 +28,7 @@ const SIDES: Served = Served::FromTo(1, limits::MOST_SIDE);
 const STRIP: &[Opt] = &[
     opt("row-bytes", "N", "bytes of a row; required"),
     number("channels", "samples of a pixel, {}; required", limits::CHANNELS),
-    number("width", "bytes of a sample, {}; required", limits::WIDTHS),
+    number("width", "bytes of a sample: {}; required", limits::WIDTHS),
 ];
 
 const PREDICT: &[Opt] = &[
