@@ -4,15 +4,16 @@ use crate::args::Opt;
 use crate::commands::{Command, COMMANDS};
 
 const STREAMS: &str = "\
-A file given as - is standard input, or for OUT standard output; what is said then goes to standard
-error. A file of that very name is ./-
+A file may be -, which is standard input, or for OUT standard output; messages then go to standard error.
+A file of that name is ./- here.
 
 ";
 
 const STATUS: &str = "\
 Exit status: 0 done; 1 Unsupported, 2 Invalid, 3 Truncated, 4 OutputTooSmall or 5 Limit if the library
 refuses; 64 for a wrong command line; 74 for a file or stream that cannot be read or written. OUT is
-written only once all is done: a refusal leaves no file behind, and one that was there as it was.
+written only once all is done: a refusal leaves no file behind, one that was there as it was, and
+standard output empty.
 ";
 
 pub fn overview() -> String {
@@ -28,7 +29,8 @@ pub fn of(command: &Command) -> String {
     for file in command.syntax.files {
         usage += &format!(" {file}");
     }
-    if command.syntax.options().next().is_some() {
+    let has_options = command.syntax.options().next().is_some();
+    if has_options {
         usage += " [OPTIONS]";
     }
     let mut text = format!("{usage}\n\n{}\n{}\n", command.about, command.notes);
@@ -36,6 +38,9 @@ pub fn of(command: &Command) -> String {
         let about = served.map_or(about.to_string(), |served| about.replace("{}", &served.to_string()));
         text += &format!("  {:18} {about}\n", format!("--{name} {value}").trim_end());
     }
+    if has_options {
+        text += "\n";
+    }
     let streams = if command.syntax.files.is_empty() { "" } else { STREAMS };
-    text + "\n" + streams + STATUS
+    text + streams + STATUS
 }
