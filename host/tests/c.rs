@@ -1,31 +1,22 @@
 //! The C program `c/check.c`, compiled against the header and the archive and run.
 
-mod common;
+mod compiler;
+mod runner;
 
 use std::path::Path;
-use std::process::Command;
-
-/// The C compiler: the words of CC if that is set, else gcc.
-fn compiler() -> Command {
-    let given = std::env::var("CC").unwrap_or_default();
-    let mut words = given.split_whitespace();
-    let mut command = Command::new(words.next().unwrap_or("gcc"));
-    command.args(words);
-    command
-}
 
 #[test]
 fn the_c_program_finds_no_difference() {
     let program = Path::new(env!("CARGO_TARGET_TMPDIR")).join("check");
     let source = Path::new(env!("CARGO_MANIFEST_DIR")).join("c/check.c");
-    let mut compiler = compiler();
+    let mut compiler = compiler::compiler("CC", "gcc");
     compiler
         .args(["-std=c99", "-Wall", "-Wextra", "-Werror", "-I", env!("HAMRISK_INCLUDE"), "-o"])
         .args([&program, &source])
         .arg(env!("HAMRISK_ARCHIVE"));
     let compiled = compiler.output().unwrap_or_else(|error| panic!("{compiler:?}: {error}"));
     assert!(compiled.status.success(), "{}", String::from_utf8_lossy(&compiled.stderr));
-    let run = common::program(&program).output().expect("the program runs");
+    let run = runner::program(&program).output().expect("the program runs");
     assert_eq!(String::from_utf8_lossy(&run.stdout), "29 checks, 0 differ\n");
     assert!(run.status.success());
 }

@@ -1,7 +1,7 @@
 //! The command over files and streams: what each subcommand writes, what it says when it is refused, and that it leaves
 //! nothing behind.
 
-mod common;
+mod runner;
 
 use hamrisk::{ByteOrder, Coding, Strip};
 use std::ffi::OsStr;
@@ -38,7 +38,7 @@ impl Folder {
 
     /// The command in this folder on the words of a line.
     fn command(&self, line: &str) -> Command {
-        let mut command = common::program(env!("CARGO_BIN_EXE_hamrisk"));
+        let mut command = runner::program(env!("CARGO_BIN_EXE_hamrisk"));
         command.args(line.split_whitespace()).current_dir(&self.0);
         command
     }

@@ -1,9 +1,9 @@
-//! How the tests start programs.
+//! How the tests start programs that are for the library's machine.
 
 use std::ffi::OsStr;
 use std::process::Command;
 
-/// A program of the library's machine, to be started: behind the words of HAMRISK_RUNNER if that is set, an emulator.
+/// A program to be started: behind the words of HAMRISK_RUNNER, an emulator, if that is set.
 pub fn program(path: impl AsRef<OsStr>) -> Command {
     let runner = std::env::var("HAMRISK_RUNNER").unwrap_or_default();
     let mut words = runner.split_whitespace();
