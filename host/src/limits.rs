@@ -1,4 +1,5 @@
-//! The numbers that the calls serve. The library's own checks decide; `tests/limits.rs` holds each number here to them.
+//! The numbers that the calls serve, as docs/RULES.md has them (10, and 5 for layouts). The library's own checks decide;
+//! `tests/limits.rs` holds each number here to them.
 
 use std::fmt;
 
