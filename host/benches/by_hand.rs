@@ -147,7 +147,7 @@ pub fn forward(raw: &[u8], s: Strip, c: Coding, out: &mut [u8]) {
     transform(raw, s, c, out, true)
 }
 
-/// Marks of a strip's samples, with the rule that follows from demand 3: own bytes, then along the row.
+/// Marks of a strip's samples, by the rule that follows from what a mark means: own bytes, then along the row.
 #[inline(never)]
 pub fn marks(damage: &[u8], s: Strip, predict: bool, marks: &mut [u8]) -> usize {
     let samples = s.row_bytes / s.width;

@@ -1,5 +1,5 @@
 //! Debian's libtiff, found when the benchmark runs: the same operations where it has them.
-use std::ffi::{c_char, c_int, c_void, CString};
+use std::ffi::{c_char, c_int, c_void, CStr, CString};
 
 extern "C" {
     fn dlopen(name: *const c_char, flags: c_int) -> *mut c_void;
@@ -86,6 +86,13 @@ unsafe extern "C" fn map(_: Handle, _: *mut *mut c_void, _: *mut u64) -> c_int {
 
 unsafe extern "C" fn unmap(_: Handle, _: *mut c_void, _: u64) {}
 
+/// The library's function of this name, if it has one. `F` must be its type, a pointer to a function.
+unsafe fn function<F>(library: Handle, name: &CStr) -> Option<F> {
+    assert_eq!(size_of::<F>(), size_of::<Handle>());
+    let found = dlsym(library, name.as_ptr());
+    (!found.is_null()).then(|| std::mem::transmute_copy::<Handle, F>(&found))
+}
+
 /// A strip of one picture: `rows` rows of 1024 pixels of `channels` samples of `width` bytes, through Deflate.
 #[derive(Clone, Copy)]
 pub struct Picture {
@@ -100,30 +107,26 @@ pub struct Picture {
 impl Libtiff {
     /// libtiff, if it is installed.
     pub fn load() -> Option<Self> {
+        // SAFETY: each function has the type that tiffio.h declares it with.
         unsafe {
             let library = dlopen(c"libtiff.so.6".as_ptr(), 2);
             if library.is_null() {
                 return None;
             }
-            let find = |name: &str| {
-                let found = dlsym(library, CString::new(name).unwrap().as_ptr());
-                (!found.is_null()).then_some(found)
-            };
-            use std::mem::transmute as function;
-            let warn: unsafe extern "C" fn(Handle) -> Handle = function(find("TIFFSetWarningHandler")?);
+            let warn: unsafe extern "C" fn(Handle) -> Handle = function(library, c"TIFFSetWarningHandler")?;
             warn(std::ptr::null_mut());
             Some(Libtiff {
-                reverse: function(find("TIFFReverseBits")?),
+                reverse: function(library, c"TIFFReverseBits")?,
                 swab: [
-                    function(find("TIFFSwabArrayOfShort")?),
-                    function(find("TIFFSwabArrayOfLong")?),
-                    function(find("TIFFSwabArrayOfLong8")?),
+                    function(library, c"TIFFSwabArrayOfShort")?,
+                    function(library, c"TIFFSwabArrayOfLong")?,
+                    function(library, c"TIFFSwabArrayOfLong8")?,
                 ],
-                open: function(find("TIFFClientOpen")?),
-                close: function(find("TIFFClose")?),
-                set: function(find("TIFFSetField")?),
-                write: function(find("TIFFWriteEncodedStrip")?),
-                read: function(find("TIFFReadEncodedStrip")?),
+                open: function(library, c"TIFFClientOpen")?,
+                close: function(library, c"TIFFClose")?,
+                set: function(library, c"TIFFSetField")?,
+                write: function(library, c"TIFFWriteEncodedStrip")?,
+                read: function(library, c"TIFFReadEncodedStrip")?,
             })
         }
     }

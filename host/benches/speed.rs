@@ -3,6 +3,7 @@
 mod by_hand;
 mod libtiff;
 
+use hamrisk::limits::MOST_SIDE;
 use hamrisk::{ByteOrder, Coding, Layout, Strip};
 use libtiff::{Libtiff, Picture};
 use std::cell::RefCell;
@@ -224,7 +225,7 @@ fn marks(run: &Run, size: usize, strip: Strip) {
 
 /// Each kind of layout.
 fn kinds() -> Vec<(&'static str, Layout)> {
-    let grey = Layout { order: ByteOrder::Big, ..Layout::grey(1, 1) };
+    let grey = Layout::grey(1, 1, ByteOrder::Big);
     let colour = Layout { ch: 3, ..grey };
     let apart = Layout { separate: true, ..colour };
     let little = |l: Layout| Layout { bytes: 2, order: ByteOrder::Little, ..l };
@@ -257,10 +258,10 @@ fn kinds() -> Vec<(&'static str, Layout)> {
     ]
 }
 
-/// About n bytes of picture, 1024 columns where the rows do not pass the limit of 16,384.
+/// About n bytes of picture, 1024 columns where the rows do not pass their limit.
 fn sized(l: Layout, n: usize) -> Layout {
     let pixels = n / (l.ch * l.bytes);
-    let w = (pixels / 16384 + 1).max(1024);
+    let w = (pixels / MOST_SIDE + 1).max(1024);
     Layout { w, h: pixels / w, ..l }
 }
 
@@ -295,11 +296,12 @@ fn pictures(run: &Run, size: usize) {
 /// What a call costs that has next to nothing to do: the checks, the C interface and this crate's.
 fn least(run: &Run) {
     let strip = Strip { row_bytes: 2, channels: 1, width: 2 };
-    let grey = Layout::grey(1, 1);
+    let coding = Coding { from: ByteOrder::Little, to: ByteOrder::Little, predict: false };
+    let grey = Layout::grey(1, 1, ByteOrder::Little);
     let mut out = [0; 2];
     println!("\n| call | ns |\n|---|---|");
     for (what, t) in [
-        ("convert, nothing", seconds(|| hamrisk::convert(black_box(&[]), strip, Coding::default(), &mut out).unwrap())),
+        ("convert, nothing", seconds(|| hamrisk::convert(black_box(&[]), strip, coding, &mut out).unwrap())),
         ("swap_components, nothing", seconds(|| hamrisk::swap_components(black_box(&[]), 2, &mut out).unwrap())),
         ("marks, nothing", seconds(|| assert!(hamrisk::marks(black_box(&[]), strip, true, &mut out).is_ok()))),
         ("check_layout, one byte", seconds(|| assert!(hamrisk::check_layout(black_box(&grey)).is_ok()))),

@@ -1,6 +1,6 @@
 /*
- * Document 01's cases A, C, D, E, F, I, J and L, and some refusals, through include/hamrisk.h. Prints a line for each check that
- * differs and one of counts; ends with 1 if any differs.
+ * The cases A, C, D, E, F, I, J and L of docs/RULES.md, and some refusals, through include/hamrisk.h. Prints a line for each
+ * check that differs and one of counts; ends with 1 if any differs.
  */
 #include "hamrisk.h"
 

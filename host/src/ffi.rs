@@ -160,11 +160,11 @@ pub fn check_strip(raw_len: usize, strip: Strip) -> Result<(), Refusal> {
 /// Refuses: as [`check_strip`]; then `out` shorter than `raw` is OutputTooSmall. Writes `raw.len()` bytes of `out`.
 ///
 /// ```
-/// use hamrisk::{convert, Coding, Refusal, Strip};
+/// use hamrisk::{convert, ByteOrder::Big, Coding, Refusal, Strip};
 ///
 /// let mut out = [0; 5];
 /// let strip = Strip { row_bytes: 2, channels: 1, width: 1 };
-/// convert(&[5, 251, 7, 1], strip, Coding { predict: true, ..Coding::default() }, &mut out)?;
+/// convert(&[5, 251, 7, 1], strip, Coding { from: Big, to: Big, predict: true }, &mut out)?;
 /// assert_eq!(out, [5, 0, 7, 8, 0]);
 /// # Ok::<(), Refusal>(())
 /// ```
@@ -179,11 +179,11 @@ pub fn convert(raw: &[u8], strip: Strip, coding: Coding, out: &mut [u8]) -> Resu
 /// Refuses: as [`convert`]. Writes `raw.len()` bytes of `out`.
 ///
 /// ```
-/// use hamrisk::{forward, Coding, Refusal, Strip};
+/// use hamrisk::{forward, ByteOrder::Big, Coding, Refusal, Strip};
 ///
 /// let mut out = [0; 4];
 /// let strip = Strip { row_bytes: 2, channels: 1, width: 1 };
-/// forward(&[5, 0, 7, 8], strip, Coding { predict: true, ..Coding::default() }, &mut out)?;
+/// forward(&[5, 0, 7, 8], strip, Coding { from: Big, to: Big, predict: true }, &mut out)?;
 /// assert_eq!(out, [5, 251, 7, 1]);
 /// # Ok::<(), Refusal>(())
 /// ```
@@ -285,10 +285,10 @@ pub fn commit(source: &[u8], out: &mut [u8]) -> Result<(), Refusal> {
 /// - Limit: w or h above 16,384, or w × h × ch × bytes above 1,073,741,824.
 ///
 /// ```
-/// use hamrisk::{check_layout, Layout, Refusal};
+/// use hamrisk::{check_layout, ByteOrder::Big, Layout, Refusal};
 ///
-/// assert_eq!(check_layout(&Layout::bilevel(9, 2))?.scratch_length, 4);
-/// assert_eq!(check_layout(&Layout::grey(16_385, 1)), Err(Refusal::Limit));
+/// assert_eq!(check_layout(&Layout::bilevel(9, 2, Big))?.scratch_length, 4);
+/// assert_eq!(check_layout(&Layout::grey(16_385, 1, Big)), Err(Refusal::Limit));
 /// # Ok::<(), Refusal>(())
 /// ```
 pub fn check_layout(layout: &Layout) -> Result<Derived, Refusal> {
@@ -304,9 +304,9 @@ pub fn check_layout(layout: &Layout) -> Result<Derived, Refusal> {
 /// Refuses: as [`check_layout`]; then `k` at or past the output length is Invalid.
 ///
 /// ```
-/// use hamrisk::{index, ByteAt, Layout};
+/// use hamrisk::{index, ByteAt, ByteOrder::Big, Layout};
 ///
-/// let apart = Layout { separate: true, ..Layout::colour(2, 1) };
+/// let apart = Layout { separate: true, ..Layout::colour(2, 1, Big) };
 /// assert_eq!(index(&apart, ByteAt(1)), Ok(ByteAt(2)));
 /// ```
 pub fn index(layout: &Layout, k: ByteAt) -> Result<ByteAt, Refusal> {
@@ -324,11 +324,12 @@ pub fn index(layout: &Layout, k: ByteAt) -> Result<ByteAt, Refusal> {
 /// OutputTooSmall. Writes output length bytes of `out`.
 ///
 /// ```
-/// use hamrisk::{render, Layout, Refusal};
+/// use hamrisk::{render, ByteOrder, Layout, Refusal};
 ///
-/// let mut out = [7; 9];
-/// render(&Layout::bilevel(9, 1), &[], &[0x80, 0x80], &mut out)?;
-/// assert_eq!(out, [255, 0, 0, 0, 0, 0, 0, 0, 255]);
+/// let depth = Layout { bytes: 2, ..Layout::grey(2, 1, ByteOrder::Little) };
+/// let mut out = [7; 5];
+/// render(&depth, &[], &[0x34, 0x12, 0x78, 0x56], &mut out)?;
+/// assert_eq!(out, [0x12, 0x34, 0x56, 0x78, 7]);
 /// # Ok::<(), Refusal>(())
 /// ```
 pub fn render(layout: &Layout, file: &[u8], raw: &[u8], out: &mut [u8]) -> Result<(), Refusal> {
@@ -353,10 +354,10 @@ pub fn render(layout: &Layout, file: &[u8], raw: &[u8], out: &mut [u8]) -> Resul
 /// nor 255 is Invalid. Writes scratch length bytes of `planes`.
 ///
 /// ```
-/// use hamrisk::{write_planes, Layout, Refusal};
+/// use hamrisk::{write_planes, ByteOrder::Big, Layout, Refusal};
 ///
 /// let mut planes = [0; 2];
-/// write_planes(&Layout::bilevel(9, 1), &[255, 0, 0, 0, 0, 0, 0, 0, 255], &mut planes)?;
+/// write_planes(&Layout::bilevel(9, 1, Big), &[255, 0, 0, 0, 0, 0, 0, 0, 255], &mut planes)?;
 /// assert_eq!(planes, [0x80, 0x80]);
 /// # Ok::<(), Refusal>(())
 /// ```

@@ -4,8 +4,8 @@
 //! Each call here hands the caller's slices to a function of the library in `crates/capi`, which is proved to meet its
 //! promise on every input: it ends, stays within its slices, and refuses in a fixed order. A refusal writes nothing. A
 //! call that is done writes the stated bytes at the front of its output and leaves the bytes past them as they were.
-//! Nothing is allocated, but for the five calls that answer a `Vec`: [`converted`], [`forwarded`], [`marked`],
-//! [`rendered`] and [`written`].
+//! The numbers that are served stand in [`limits`]. Nothing is allocated, but for the five calls that answer a `Vec`:
+//! [`converted`], [`forwarded`], [`marked`], [`rendered`] and [`written`].
 //!
 //! ```
 //! use hamrisk::{converted, ByteOrder, Coding, Refusal, Strip};
@@ -24,6 +24,7 @@
 
 #[allow(unsafe_code)]
 mod ffi;
+pub mod limits;
 mod owned;
 mod types;
 

@@ -44,9 +44,9 @@ pub fn rendered(layout: &Layout, file: &[u8], raw: &[u8]) -> Result<Vec<u8>, Ref
 /// [`write_planes`] into a new `Vec`. Refuses as [`write_planes`], but for a short output.
 ///
 /// ```
-/// use hamrisk::{rendered, written, Layout, Refusal};
+/// use hamrisk::{rendered, written, ByteOrder::Big, Layout, Refusal};
 ///
-/// let apart = Layout { separate: true, ..Layout::colour(2, 1) };
+/// let apart = Layout { separate: true, ..Layout::colour(2, 1, Big) };
 /// let planes = written(&apart, &[1, 3, 5, 2, 4, 6])?;
 /// assert_eq!(planes, [1, 2, 3, 4, 5, 6]);
 /// assert_eq!(rendered(&apart, &[], &planes)?, [1, 3, 5, 2, 4, 6]);

@@ -51,11 +51,10 @@ pub struct ByteAt(pub usize);
 #[derive(Clone, Copy, Debug, PartialEq, Eq, PartialOrd, Ord, Hash)]
 pub struct SampleAt(pub usize);
 
-/// Which byte of a word comes first.
-#[derive(Clone, Copy, Debug, Default, PartialEq, Eq, Hash)]
+/// Which byte of a word comes first. There is no default: a wrong guess would swap every sample without a word.
+#[derive(Clone, Copy, Debug, PartialEq, Eq, Hash)]
 pub enum ByteOrder {
     /// The least significant one.
-    #[default]
     Little,
     /// The most significant one.
     Big,
@@ -72,8 +71,8 @@ pub struct Strip {
     pub width: usize,
 }
 
-/// How a strip is read and written.
-#[derive(Clone, Copy, Debug, Default, PartialEq, Eq, Hash)]
+/// How a strip is read and written. Samples of one byte are the same in both orders.
+#[derive(Clone, Copy, Debug, PartialEq, Eq, Hash)]
 pub struct Coding {
     /// The byte order that is read.
     pub from: ByteOrder,
@@ -97,7 +96,7 @@ impl Coding {
 /// ```
 /// use hamrisk::{check_layout, ByteOrder, Layout, Refusal};
 ///
-/// let depth = Layout { bytes: 2, order: ByteOrder::Little, ..Layout::grey(640, 480) };
+/// let depth = Layout { bytes: 2, ..Layout::grey(640, 480, ByteOrder::Little) };
 /// assert_eq!(check_layout(&depth)?.output_length, 614_400);
 /// # Ok::<(), Refusal>(())
 /// ```
@@ -117,7 +116,7 @@ pub struct Layout {
     pub palette: bool,
     /// Whether each channel stands in a plane of its own.
     pub separate: bool,
-    /// The byte order of the planes, and of the palette.
+    /// The byte order of the planes, and of the palette; planes of one byte have none.
     pub order: ByteOrder,
     /// Whether 0 is white; a palette ignores it.
     pub white: bool,
@@ -128,8 +127,8 @@ pub struct Layout {
 }
 
 impl Layout {
-    /// One channel of one byte, 0 black.
-    pub fn grey(w: usize, h: usize) -> Layout {
+    /// One channel of one byte, 0 black; the order counts once `bytes` is 2.
+    pub const fn grey(w: usize, h: usize, order: ByteOrder) -> Layout {
         Layout {
             w,
             h,
@@ -138,26 +137,26 @@ impl Layout {
             slots: 1,
             palette: false,
             separate: false,
-            order: ByteOrder::Little,
+            order,
             white: false,
             alpha: 0,
             map: 0,
         }
     }
 
-    /// Three channels of one byte, side by side.
-    pub fn colour(w: usize, h: usize) -> Layout {
-        Layout { ch: 3, ..Layout::grey(w, h) }
+    /// Three channels of one byte, side by side; the order counts once `bytes` is 2.
+    pub const fn colour(w: usize, h: usize, order: ByteOrder) -> Layout {
+        Layout { ch: 3, ..Layout::grey(w, h, order) }
     }
 
-    /// One channel of a bit, 0 black.
-    pub fn bilevel(w: usize, h: usize) -> Layout {
-        Layout { slots: 8, ..Layout::grey(w, h) }
+    /// One channel of a bit, 0 black; bits have no byte order, so either serves.
+    pub const fn bilevel(w: usize, h: usize, order: ByteOrder) -> Layout {
+        Layout { slots: 8, ..Layout::grey(w, h, order) }
     }
 
-    /// Indices of colours, `slots` in a byte, with the palette at byte `map` of the file.
-    pub fn indexed(w: usize, h: usize, slots: usize, map: usize) -> Layout {
-        Layout { slots, palette: true, map, ..Layout::colour(w, h) }
+    /// Indices of colours, `slots` in a byte, with the palette at byte `map` of the file; the order is the palette's.
+    pub const fn indexed(w: usize, h: usize, slots: usize, map: usize, order: ByteOrder) -> Layout {
+        Layout { slots, palette: true, map, ..Layout::colour(w, h, order) }
     }
 }
 

@@ -1,6 +1,9 @@
 //! The script `hamrisk` at the repository's root: what it installs is used as a C or C++ programmer would, and what it says where
 //! something is missing.
 
+mod compiler;
+mod runner;
+
 use std::fs;
 use std::os::unix::fs::symlink;
 use std::path::{Path, PathBuf};
@@ -20,10 +23,6 @@ fn folder(name: &str) -> PathBuf {
 
 fn said(output: &Output) -> String {
     format!("{}{}", String::from_utf8_lossy(&output.stdout), String::from_utf8_lossy(&output.stderr))
-}
-
-fn tool(variable: &str, otherwise: &str) -> String {
-    std::env::var(variable).ok().filter(|v| !v.is_empty()).unwrap_or_else(|| otherwise.to_string())
 }
 
 /// README's example in C, and a `main` that has a row of zeros converted and marked, its fourth byte lost.
@@ -65,9 +64,9 @@ fn the_installed_library_serves_c_and_cpp() {
         .expect("pkg-config is on the path");
     assert!(flags.status.success(), "{}", said(&flags));
     let flags = String::from_utf8(flags.stdout).expect("flags are text");
-    for (compiler, language) in [(tool("CC", "gcc"), "c"), (tool("CXX", "g++"), "c++")] {
+    for (variable, usual, language) in [("CC", "gcc", "c"), ("CXX", "g++", "c++")] {
         let program = here.join(format!("example-{language}"));
-        let compiled = Command::new(&compiler)
+        let compiled = compiler::compiler(variable, usual)
             .args(["-x", language, "example.c", "-x", "none", "-o"])
             .arg(&program)
             .args(flags.split_whitespace())
@@ -75,12 +74,8 @@ fn the_installed_library_serves_c_and_cpp() {
             .output()
             .expect("the compiler is on the path");
         assert!(compiled.status.success(), "{}", said(&compiled));
-        let runner = tool("HAMRISK_RUNNER", "/usr/bin/env");
-        let run = Command::new(runner)
-            .arg(&program)
-            .env("LD_LIBRARY_PATH", prefix.join("lib"))
-            .output()
-            .expect("the program runs");
+        let run =
+            runner::program(&program).env("LD_LIBRARY_PATH", prefix.join("lib")).output().expect("the program runs");
         assert_eq!(said(&run), "0 639\n", "{language}");
     }
 }

@@ -1,4 +1,4 @@
-//! Every call beside an independent plain Rust reading of document 01, on random and edge inputs, with canaries around
+//! Every call beside an independent plain Rust reading of docs/RULES.md, on random and edge inputs, with canaries around
 //! every buffer.
 
 mod lent;

@@ -3,11 +3,12 @@
 use crate::lent::Lent;
 use crate::random::Random;
 use crate::{plain, told};
-use hamrisk::{check_layout, index, render, rendered, write_planes, written, ByteAt, ByteOrder, Layout};
+use hamrisk::ByteOrder::{Big, Little};
+use hamrisk::{check_layout, index, render, rendered, write_planes, written, ByteAt, Layout};
 
 /// Every layout of these numbers, good or bad, with one row of one pixel.
 fn layouts(all_bytes: &[usize], all_ch: &[usize], all_slots: &[usize], all_alpha: &[usize]) -> Vec<Layout> {
-    let mut list = vec![Layout::grey(1, 1)];
+    let mut list = vec![Layout::grey(1, 1, Big)];
     list = with(list, all_bytes, |l, bytes| Layout { bytes, ..l });
     list = with(list, all_ch, |l, ch| Layout { ch, ..l });
     list = with(list, all_slots, |l, slots| Layout { slots, ..l });
@@ -15,7 +16,7 @@ fn layouts(all_bytes: &[usize], all_ch: &[usize], all_slots: &[usize], all_alpha
     list = with(list, &[false, true], |l, palette| Layout { palette, ..l });
     list = with(list, &[false, true], |l, separate| Layout { separate, ..l });
     list = with(list, &[false, true], |l, white| Layout { white, ..l });
-    with(list, &[ByteOrder::Little, ByteOrder::Big], |l, order| Layout { order, ..l })
+    with(list, &[Little, Big], |l, order| Layout { order, ..l })
 }
 
 fn with<T: Copy>(list: Vec<Layout>, values: &[T], set: impl Fn(Layout, T) -> Layout) -> Vec<Layout> {
@@ -63,21 +64,21 @@ fn check_layout_of_every_kind_and_size() {
             assert_eq!(told(check_layout(&l)), plain::check_layout(&l), "{l:?}");
         }
     }
-    let largest = Layout { alpha: 0, ch: usize::MAX, ..Layout::grey(1, 1) };
+    let largest = Layout { alpha: 0, ch: usize::MAX, ..Layout::grey(1, 1, Big) };
     assert_eq!(told(check_layout(&largest)), Err(plain::UNSUPPORTED));
-    assert_eq!(told(check_layout(&Layout { alpha: usize::MAX, ..Layout::grey(1, 1) })), Err(plain::UNSUPPORTED));
+    assert_eq!(told(check_layout(&Layout { alpha: usize::MAX, ..Layout::grey(1, 1, Big) })), Err(plain::UNSUPPORTED));
 }
 
 #[test]
 fn check_layout_at_the_limits() {
-    let four = Layout { ch: 4, ..Layout::grey(16_384, 16_384) };
+    let four = Layout { ch: 4, ..Layout::grey(16_384, 16_384, Big) };
     assert_eq!(check_layout(&four).unwrap().output_length, 1 << 30);
     for (l, refusal) in [
         (Layout { bytes: 2, ..four }, plain::LIMIT),
-        (Layout::grey(16_385, 1), plain::LIMIT),
-        (Layout::grey(1, 16_385), plain::LIMIT),
-        (Layout { alpha: 1, ch: 3, ..Layout::grey(16_385, 1) }, plain::INVALID),
-        (Layout { bytes: 3, ..Layout::grey(16_385, 0) }, plain::UNSUPPORTED),
+        (Layout::grey(16_385, 1, Big), plain::LIMIT),
+        (Layout::grey(1, 16_385, Big), plain::LIMIT),
+        (Layout { alpha: 1, ch: 3, ..Layout::grey(16_385, 1, Big) }, plain::INVALID),
+        (Layout { bytes: 3, ..Layout::grey(16_385, 0, Big) }, plain::UNSUPPORTED),
     ] {
         assert_eq!(told(check_layout(&l)), Err(refusal), "{l:?}");
         assert_eq!(told(index(&l, ByteAt(usize::MAX))), Err(refusal), "{l:?}");
@@ -206,7 +207,7 @@ fn write_every_good_kind() {
 fn a_bad_byte_in_a_late_row_leaves_the_planes() {
     let mut random = Random::new(24);
     for (w, h) in [(9, 7), (8, 7), (64, 9), (1, 40)] {
-        let l = Layout::bilevel(w, h);
+        let l = Layout::bilevel(w, h, Big);
         let mut content = vec![255; w * h + 1];
         content[w * h] = 7;
         let mut planes = Lent::room(&mut random, check_layout(&l).unwrap().scratch_length);
@@ -255,18 +256,18 @@ fn clear_padding(l: &Layout, planes: &mut [u8]) {
 }
 
 #[test]
-fn the_cases_of_document_01() {
-    assert_eq!(rendered(&Layout::bilevel(9, 1), &[], &[0x80, 0x80]).unwrap(), [255, 0, 0, 0, 0, 0, 0, 0, 255]);
-    let apart = Layout { separate: true, ..Layout::colour(2, 1) };
+fn the_cases_of_the_rules() {
+    assert_eq!(rendered(&Layout::bilevel(9, 1, Big), &[], &[0x80, 0x80]).unwrap(), [255, 0, 0, 0, 0, 0, 0, 0, 255]);
+    let apart = Layout { separate: true, ..Layout::colour(2, 1, Big) };
     assert_eq!(rendered(&apart, &[], &[1, 2, 3, 4, 5, 6]).unwrap(), [1, 3, 5, 2, 4, 6]);
-    let wide = Layout { bytes: 2, order: ByteOrder::Little, ..Layout::grey(1, 1) };
+    let wide = Layout { bytes: 2, ..Layout::grey(1, 1, Little) };
     assert_eq!(rendered(&wide, &[], &[0x34, 0x12]).unwrap(), [0x12, 0x34]);
-    let multiplied = Layout { ch: 2, alpha: 1, ..Layout::grey(3, 1) };
+    let multiplied = Layout { ch: 2, alpha: 1, ..Layout::grey(3, 1, Big) };
     assert_eq!(rendered(&multiplied, &[], &[100, 200, 200, 100, 9, 0]).unwrap(), [127, 200, 255, 100, 0, 0]);
     let mut file = vec![0; 96];
     for i in 0..48 {
         file[2 * i + 1] = i as u8;
     }
-    let indexed = Layout::indexed(3, 1, 2, 0);
+    let indexed = Layout::indexed(3, 1, 2, 0, Little);
     assert_eq!(rendered(&indexed, &file, &[0x1A, 0x70]).unwrap(), [1, 17, 33, 10, 26, 42, 7, 23, 39]);
 }

@@ -1,5 +1,5 @@
-//! Document 01 read plainly and slowly: numbers of 128 bits, one sample and one byte at a time, refusals by number in
-//! the order that it gives. It shares no code with the library or its speed table.
+//! docs/RULES.md read plainly and slowly: numbers of 128 bits, one sample and one byte at a time, refusals by number in
+//! the order that it gives. It shares no code or number with the library or its speed table.
 
 use hamrisk::{ByteOrder, Derived, Layout, Strip};
 

@@ -234,9 +234,9 @@ fn marks_are_what_damaged_bytes_can_change() {
 }
 
 #[test]
-fn the_cases_of_document_01() {
+fn the_cases_of_the_rules() {
     let strip = |row_bytes, channels, width| Strip { row_bytes, channels, width };
-    let predicted = Coding { predict: true, ..Coding::default() };
+    let predicted = Coding { from: ByteOrder::Little, to: ByteOrder::Little, predict: true };
     assert_eq!(
         hamrisk::converted(&[10, 20, 30, 1, 2, 3], strip(6, 3, 1), predicted).unwrap(),
         [10, 20, 30, 11, 22, 33]

@@ -1,9 +1,30 @@
-//! The words of a command line, held to what its command takes.
+//! What a command takes, and the words of a command line held to it.
 
 use crate::failure::Failure;
-use crate::help::{Command, Opt};
+use hamrisk::limits::Served;
 use std::ffi::{OsStr, OsString};
 use std::path::Path;
+
+/// An option: `value` is what stands after it, empty for a switch. `{}` in what is said of it stands for what is served.
+pub struct Opt {
+    pub name: &'static str,
+    pub value: &'static str,
+    pub about: &'static str,
+    pub served: Option<Served>,
+}
+
+/// The name of a command, and the files and options that it takes.
+pub struct Syntax {
+    pub name: &'static str,
+    pub files: &'static [&'static str],
+    pub groups: &'static [&'static [Opt]],
+}
+
+impl Syntax {
+    pub fn options(&self) -> impl Iterator<Item = &'static Opt> {
+        self.groups.iter().copied().flatten()
+    }
+}
 
 /// The files and options of one command line.
 pub struct Args {
@@ -15,21 +36,21 @@ pub struct Args {
 
 impl Args {
     /// Options may stand before, between or after files, as `--name value` or `--name=value`; after `--` all are files.
-    pub fn parse(command: &'static Command, words: &[OsString]) -> Result<Args, Failure> {
-        let mut args = Args { command: command.name, files: Vec::new(), options: Vec::new() };
+    pub fn parse(syntax: &Syntax, words: &[OsString]) -> Result<Args, Failure> {
+        let mut args = Args { command: syntax.name, files: Vec::new(), options: Vec::new() };
         let mut words = words.iter();
         while let Some(word) = words.next() {
             match word.to_str() {
                 Some("--") => args.files.extend(words.by_ref().cloned()),
-                Some(text) if text.starts_with("--") => args.take_option(command, &text[2..], &mut words)?,
+                Some(text) if text.starts_with("--") => args.take_option(syntax, &text[2..], &mut words)?,
                 Some(text) if text.len() > 1 && text.starts_with('-') => {
                     return Err(args.wrong(format!("there is no option {text}")));
                 }
                 _ => args.files.push(word.clone()),
             }
         }
-        if args.files.len() != command.files.len() {
-            let wanted = if command.files.is_empty() { "no file".into() } else { command.files.join(" and ") };
+        if args.files.len() != syntax.files.len() {
+            let wanted = if syntax.files.is_empty() { "no file".into() } else { syntax.files.join(" and ") };
             return Err(args.wrong(format!("{wanted} wanted, {} files given", args.files.len())));
         }
         Ok(args)
@@ -37,7 +58,7 @@ impl Args {
 
     fn take_option<'a>(
         &mut self,
-        command: &'static Command,
+        syntax: &Syntax,
         option: &str,
         words: &mut impl Iterator<Item = &'a OsString>,
     ) -> Result<(), Failure> {
@@ -45,7 +66,7 @@ impl Args {
             Some((name, value)) => (name, Some(value)),
             None => (option, None),
         };
-        let Some(Opt { name, value, .. }) = command.options().find(|known| known.name == name) else {
+        let Some(Opt { name, value, .. }) = syntax.options().find(|known| known.name == name) else {
             return Err(self.wrong(format!("there is no option --{name}")));
         };
         if self.value(name).is_some() {
@@ -76,6 +97,15 @@ impl Args {
 
     pub fn has(&self, name: &str) -> bool {
         self.value(name).is_some()
+    }
+
+    /// Which of two switches is given: whether it is the first one.
+    pub fn either(&self, one: &str, other: &str) -> Result<Option<bool>, Failure> {
+        match (self.has(one), self.has(other)) {
+            (true, true) => Err(self.wrong(format!("one of --{one} and --{other} is wanted, not both"))),
+            (false, false) => Ok(None),
+            (first, _) => Ok(Some(first)),
+        }
     }
 
     /// A number that must be given.

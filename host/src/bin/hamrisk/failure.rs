@@ -5,7 +5,7 @@ use std::fmt;
 use std::io;
 use std::path::{Path, PathBuf};
 
-/// The exit status of a wrong command line, and of a file that cannot be read or written, as in sysexits.h.
+/// The exit status of a wrong command line, and of a file or stream that cannot be read or written, as in sysexits.h.
 const WRONG_USAGE: u8 = 64;
 const WRONG_FILE: u8 = 74;
 
@@ -13,7 +13,7 @@ const WRONG_FILE: u8 = 74;
 pub enum Failure {
     /// A wrong command line.
     Usage(String),
-    /// A file that cannot be read or written.
+    /// A file or stream that cannot be read or written.
     File { path: PathBuf, error: io::Error },
     /// The library refused; `fault` names the number that caused it, if it is known.
     Refused { call: &'static str, refusal: Refusal, fault: Option<String> },

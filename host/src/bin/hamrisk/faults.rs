@@ -1,16 +1,18 @@
 //! Which number a refusal is about: each call's faults in the order in which the library looks for them.
 
 use crate::failure::Fault;
+use hamrisk::limits::{self, Served, MOST_PICTURE_BYTES, MOST_SIDE};
 use hamrisk::Refusal::{self, Invalid, Limit, Truncated, Unsupported};
 use hamrisk::{check_layout, Layout, Strip};
-
-/// The limits of a layout: columns or rows, and bytes of the picture.
-const MOST_SIDE: usize = 16_384;
-const MOST_BYTES: u128 = 1 << 30;
 
 /// A fault, if it is one.
 fn fault(holds: bool, refusal: Refusal, text: impl Into<String>) -> Option<Fault> {
     holds.then(|| (refusal, text.into()))
+}
+
+/// A number that is not served.
+fn unserved(name: &str, value: usize, served: Served) -> Option<Fault> {
+    fault(!served.has(value), Unsupported, format!("{name} {value} is not {served}"))
 }
 
 /// The first fault of these.
@@ -28,8 +30,8 @@ pub fn of_strip(length: usize, strip: Strip) -> Option<Fault> {
     let pixel = channels.saturating_mul(width);
     let row = format!("row bytes {row_bytes}");
     first([
-        fault(![1, 2, 4, 8].contains(&width), Unsupported, format!("width {width} is none of 1, 2, 4 and 8")),
-        fault(!(1..=64).contains(&channels), Unsupported, format!("channels {channels} is not 1 to 64")),
+        unserved("width", width, limits::WIDTHS),
+        unserved("channels", channels, limits::CHANNELS),
         fault(row_bytes == 0, Unsupported, format!("{row} is not served")),
         fault(
             ragged(row_bytes, pixel),
@@ -42,22 +44,22 @@ pub fn of_strip(length: usize, strip: Strip) -> Option<Fault> {
 
 pub fn of_swap(length: usize, width: usize) -> Option<Fault> {
     first([
-        fault(!(1..=8).contains(&width), Unsupported, format!("width {width} is not 1 to 8")),
+        unserved("width", width, limits::SWAP_WIDTHS),
         fault(ragged(length, width), Invalid, format!("length {length} is no multiple of width {width}")),
     ])
 }
 
 fn of_layout(l: &Layout) -> Option<Fault> {
-    not_served(l).or_else(|| contradiction(l)).or_else(|| above_limit(l))
+    unserved_field(l).or_else(|| contradiction(l)).or_else(|| above_limit(l))
 }
 
-fn not_served(l: &Layout) -> Option<Fault> {
+fn unserved_field(l: &Layout) -> Option<Fault> {
     let Layout { ch, bytes, slots, alpha, .. } = *l;
     first([
-        fault(![1, 2, 8].contains(&bytes), Unsupported, format!("bytes {bytes} is none of 1, 2 and 8")),
-        fault(!(1..=4).contains(&ch), Unsupported, format!("ch {ch} is not 1 to 4")),
-        fault(![1, 2, 8].contains(&slots), Unsupported, format!("slots {slots} is none of 1, 2 and 8")),
-        fault(alpha > 2, Unsupported, format!("alpha {alpha} is above 2")),
+        unserved("bytes", bytes, limits::LAYOUT_BYTES),
+        unserved("ch", ch, limits::LAYOUT_CH),
+        unserved("slots", slots, limits::LAYOUT_SLOTS),
+        unserved("alpha", alpha, limits::LAYOUT_ALPHAS),
     ])
 }
 
@@ -93,9 +95,9 @@ fn above_limit(l: &Layout) -> Option<Fault> {
         fault(w > MOST_SIDE, Limit, format!("w {w} is above {MOST_SIDE}")),
         fault(h > MOST_SIDE, Limit, format!("h {h} is above {MOST_SIDE}")),
         fault(
-            size > MOST_BYTES,
+            size > MOST_PICTURE_BYTES as u128,
             Limit,
-            format!("w {w} × h {h} × ch {ch} × bytes {bytes} is {size}, above {MOST_BYTES}"),
+            format!("w {w} × h {h} × ch {ch} × bytes {bytes} is {size}, above {MOST_PICTURE_BYTES}"),
         ),
     ])
 }
@@ -107,7 +109,7 @@ pub fn of_render(l: &Layout, file_length: usize, raw_length: usize) -> Option<Fa
     let (map, colours, needed) = (l.map, d.colours, d.scratch_length);
     let end = map as u128 + 6 * colours as u128;
     first([
-        fault(l.bytes == 8, Unsupported, "bytes 8 is not rendered"),
+        fault(!limits::RENDERED_BYTES.has(l.bytes), Unsupported, format!("bytes {} is not rendered", l.bytes)),
         fault(
             l.palette && end > file_length as u128,
             Truncated,
@@ -124,8 +126,8 @@ pub fn of_planes(l: &Layout, picture: &[u8]) -> Option<Fault> {
     let (length, needed) = (picture.len(), d.output_length);
     let numbers = first([
         fault(l.palette, Unsupported, "a palette is not written"),
-        fault(l.bytes == 8, Unsupported, "bytes 8 is not written"),
-        fault(l.alpha == 1, Unsupported, "alpha 1 is not written"),
+        fault(!limits::RENDERED_BYTES.has(l.bytes), Unsupported, format!("bytes {} is not written", l.bytes)),
+        fault(!limits::WRITTEN_ALPHAS.has(l.alpha), Unsupported, format!("alpha {} is not written", l.alpha)),
         fault(length < needed, Truncated, format!("the picture has {length} bytes and needs {needed}")),
     ]);
     numbers.or_else(|| grey_byte(l, picture))
@@ -144,7 +146,7 @@ fn grey_byte(l: &Layout, picture: &[u8]) -> Option<Fault> {
 #[cfg(test)]
 mod tests {
     use super::*;
-    use hamrisk::{check_strip, rendered, swap_components, written};
+    use hamrisk::{check_strip, rendered, swap_components, written, ByteOrder};
 
     /// The fault that is named is one that leads to the library's refusal; without a refusal there is none.
     #[track_caller]
@@ -174,7 +176,8 @@ mod tests {
 
     #[test]
     fn faults_of_layouts_agree_with_the_library() {
-        let sides = [(0, 1), (1, 0), (3, 2), (9, 1), (16_385, 1), (1, 16_385), (usize::MAX, usize::MAX)];
+        let over = MOST_SIDE + 1;
+        let sides = [(0, 1), (1, 0), (3, 2), (9, 1), (over, 1), (1, over), (usize::MAX, usize::MAX)];
         let flags = |bits: usize| [bits & 1 == 1, bits & 2 == 2, bits & 4 == 4];
         for case in 0..7 * 6 * 5 * 4 * 4 * 8 {
             let mut rest = case;
@@ -189,7 +192,17 @@ mod tests {
             let slots = [1, 2, 8, 9][pick(4)];
             let alpha = pick(4);
             let [palette, separate, white] = flags(pick(8));
-            let l = Layout { ch, bytes, slots, alpha, palette, separate, white, map: 3, ..Layout::grey(w, h) };
+            let l = Layout {
+                ch,
+                bytes,
+                slots,
+                alpha,
+                palette,
+                separate,
+                white,
+                map: 3,
+                ..Layout::grey(w, h, ByteOrder::Big)
+            };
             for length in [0, 2, 12, 100, 1539] {
                 let content = [7; 1539];
                 let some = &content[..length];

@@ -1,4 +1,4 @@
-//! Files read and written whole.
+//! Files read and written whole; `-` stands for standard input and output.
 
 use crate::failure::Failure;
 use crate::progress::{Progress, PIECE};
@@ -6,27 +6,42 @@ use std::fs::{self, File};
 use std::io::{self, Read, Write};
 use std::path::{Path, PathBuf};
 
-/// All bytes of a file.
-pub fn read(path: &Path) -> Result<Vec<u8>, Failure> {
-    read_pieces(path).map_err(|error| Failure::file(path, error))
+/// Whether a name stands for standard input, or for standard output where it is written.
+pub fn is_stream(path: &Path) -> bool {
+    path.as_os_str() == "-"
 }
 
-fn read_pieces(path: &Path) -> io::Result<Vec<u8>> {
-    let file = File::open(path)?;
-    let length = file.metadata()?.len() as usize;
-    let mut progress = Progress::new("read", length);
-    let mut bytes = Vec::with_capacity(length);
+/// All bytes of a file.
+pub fn read(path: &Path) -> Result<Vec<u8>, Failure> {
+    if is_stream(path) {
+        return told("standard input", read_pieces(io::stdin().lock(), 0));
+    }
+    let open = || {
+        let file = File::open(path)?;
+        let length = file.metadata()?.len() as usize;
+        read_pieces(file, length)
+    };
+    open().map_err(|error| Failure::file(path, error))
+}
+
+/// Reads to the end; `expected` is the length if it is known, else 0.
+fn read_pieces(mut file: impl Read, expected: usize) -> io::Result<Vec<u8>> {
+    let mut progress = Progress::new("read", expected);
+    let mut bytes = Vec::with_capacity(expected);
     loop {
-        let count = (&file).take(PIECE as u64).read_to_end(&mut bytes)?;
-        if count == 0 {
+        let count = file.by_ref().take(PIECE as u64).read_to_end(&mut bytes)?;
+        progress.advance(count);
+        if count < PIECE {
             return Ok(bytes);
         }
-        progress.advance(count);
     }
 }
 
 /// Writes a file of these parts, one after the other. It appears under its name only once it is complete.
 pub fn write(path: &Path, parts: &[&[u8]]) -> Result<(), Failure> {
+    if is_stream(path) {
+        return told("standard output", write_pieces(io::stdout().lock(), parts));
+    }
     let target = fs::canonicalize(path).unwrap_or_else(|_| path.to_path_buf());
     let written = match fs::metadata(&target) {
         Ok(meta) if !meta.is_file() => File::options().write(true).open(&target).and_then(|f| write_pieces(f, parts)),
@@ -52,7 +67,7 @@ fn part_of(target: &Path) -> io::Result<PathBuf> {
     Ok(target.with_file_name(format!(".{}.{}.part", name.to_string_lossy(), std::process::id())))
 }
 
-fn write_pieces(mut file: File, parts: &[&[u8]]) -> io::Result<()> {
+fn write_pieces(mut file: impl Write, parts: &[&[u8]]) -> io::Result<()> {
     let mut progress = Progress::new("write", parts.iter().map(|part| part.len()).sum());
     for piece in parts.iter().flat_map(|part| part.chunks(PIECE)) {
         file.write_all(piece)?;
@@ -63,7 +78,18 @@ fn write_pieces(mut file: File, parts: &[&[u8]]) -> io::Result<()> {
 
 /// Text on standard output.
 pub fn print(text: &str) -> Result<(), Failure> {
-    let mut out = io::stdout();
-    let written = out.write_all(text.as_bytes()).and_then(|()| out.flush());
-    written.map_err(|error| Failure::file(Path::new("standard output"), error))
+    told("standard output", write_pieces(io::stdout().lock(), &[text.as_bytes()]))
+}
+
+/// Text beside the file `out`: on standard output, or on standard error if the file itself is there.
+pub fn print_beside(out: &Path, text: &str) -> Result<(), Failure> {
+    if is_stream(out) {
+        return told("standard error", write_pieces(io::stderr().lock(), &[text.as_bytes()]));
+    }
+    print(text)
+}
+
+/// What became of a stream.
+fn told<T>(stream: &str, result: io::Result<T>) -> Result<T, Failure> {
+    result.map_err(|error| Failure::file(Path::new(stream), error))
 }

@@ -4,6 +4,7 @@ use crate::args::Args;
 use crate::failure::Failure;
 use crate::{faults, files, pictures};
 use hamrisk::{rendered, written, ByteOrder, Layout};
+use std::path::Path;
 
 pub fn render(args: &Args) -> Result<(), Failure> {
     let layout = layout(args)?;
@@ -27,26 +28,44 @@ pub fn planes(args: &Args) -> Result<(), Failure> {
 }
 
 fn layout(args: &Args) -> Result<Layout, Failure> {
+    let (bytes, palette) = (args.number_or("bytes", 1)?, args.has("palette"));
     Ok(Layout {
         w: args.number("w")?,
         h: args.number("h")?,
         ch: args.number_or("ch", 1)?,
-        bytes: args.number_or("bytes", 1)?,
+        bytes,
         slots: args.number_or("slots", 1)?,
-        palette: args.has("palette"),
+        palette,
         separate: args.has("separate"),
-        order: if args.has("le") { ByteOrder::Little } else { ByteOrder::Big },
+        order: order(args, bytes, palette)?,
         white: args.has("white"),
         alpha: args.number_or("alpha", 0)?,
         map: args.number_or("map", 0)?,
     })
 }
 
+/// Has to be said of channels of more than one byte and of a palette, whose colours have two, as a wrong guess would swap
+/// every one without a word.
+fn order(args: &Args, bytes: usize, palette: bool) -> Result<ByteOrder, Failure> {
+    let missing = |what: &str| args.wrong(format!("--le or --be is missing: {what} wants a byte order"));
+    match args.either("le", "be")? {
+        Some(true) => Ok(ByteOrder::Little),
+        Some(false) => Ok(ByteOrder::Big),
+        None if bytes > 1 => Err(missing(&format!("bytes {bytes}"))),
+        None if palette => Err(missing("a palette, with 2 bytes to a colour,")),
+        // Channels of one byte are the same in both orders.
+        None => Ok(ByteOrder::Little),
+    }
+}
+
 /// The file that has the palette: wanted with one, and only then.
 fn palette_file(args: &Args, layout: &Layout) -> Result<Vec<u8>, Failure> {
-    match (layout.palette, args.value("file")) {
+    match (layout.palette, args.value("file").map(Path::new)) {
         (false, None) => Ok(Vec::new()),
-        (true, Some(path)) => files::read(path.as_ref()),
+        (true, Some(path)) if files::is_stream(path) && files::is_stream(args.file(0)) => {
+            Err(args.wrong("IN and --file are both -, and standard input can be read only once".into()))
+        }
+        (true, Some(path)) => files::read(path),
         (true, None) => Err(args.wrong("--palette wants --file, which has the colours".into())),
         (false, Some(_)) => Err(args.wrong("--file is for a palette; --palette is missing".into())),
     }

@@ -1,6 +1,16 @@
-//! `hamrisk`: the calls of the library over files. See `hamrisk --help`.
+//! `hamrisk`: the calls of the library over files and streams. See `hamrisk --help`.
+//!
+//! A module uses only those further down, never one of its own line or above:
+//!
+//! - `main`
+//! - `help`: the texts
+//! - `commands`: the table of what there is
+//! - `strips`, `layouts`, `demo`: what each command does
+//! - `args`, `faults`, `files`, `pictures`: what they do it with
+//! - `failure`, `progress`
 
 mod args;
+mod commands;
 mod demo;
 mod failure;
 mod faults;
@@ -12,9 +22,10 @@ mod progress;
 mod strips;
 
 use args::Args;
+use commands::{Command, COMMANDS};
 use failure::Failure;
-use help::{Command, COMMANDS};
 use std::ffi::{OsStr, OsString};
+use std::io::{stderr, Write};
 use std::process::ExitCode;
 
 fn main() -> ExitCode {
@@ -22,7 +33,8 @@ fn main() -> ExitCode {
     match run(&words) {
         Ok(()) => ExitCode::SUCCESS,
         Err(failure) => {
-            eprintln!("hamrisk: {failure}");
+            // That it cannot be told is no reason to end with another status.
+            let _ = writeln!(stderr(), "hamrisk: {failure}");
             ExitCode::from(failure.status())
         }
     }
@@ -39,11 +51,11 @@ fn run(words: &[OsString]) -> Result<(), Failure> {
     if words.iter().take_while(|word| *word != "--").any(|word| word == "--help" || word == "-h") {
         return files::print(&help::of(command));
     }
-    let args = Args::parse(command, words)?;
+    let args = Args::parse(&command.syntax, words)?;
     (command.run)(&args)
 }
 
 fn find(name: &OsStr) -> Result<&'static Command, Failure> {
     let unknown = || Failure::Usage(format!("there is no command '{}'; see hamrisk --help", name.to_string_lossy()));
-    COMMANDS.iter().find(|command| command.name == name).ok_or_else(unknown)
+    COMMANDS.iter().find(|command| command.syntax.name == name).ok_or_else(unknown)
 }

@@ -18,7 +18,8 @@ pub fn forward(args: &Args) -> Result<(), Failure> {
 
 fn transform(args: &Args, name: &'static str, call: Transform) -> Result<(), Failure> {
     let strip = strip(args)?;
-    let coding = Coding { from: order(args, "from")?, to: order(args, "to")?, predict: predict(args)? };
+    let (from, to) = (order(args, "from", strip.width)?, order(args, "to", strip.width)?);
+    let coding = Coding { from, to, predict: predict(args)? };
     let raw = files::read(args.file(0))?;
     let mut out = vec![0; raw.len()];
     check_strip(raw.len(), strip)
@@ -42,7 +43,7 @@ pub fn marks(args: &Args) -> Result<(), Failure> {
         pictures::white_where_marked(&mut marks);
     }
     files::write(args.file(1), &[header.as_bytes(), &marks])?;
-    files::print(&format!("{count} of {} samples marked\n", marks.len()))
+    files::print_beside(args.file(1), &format!("{count} of {} samples marked\n", marks.len()))
 }
 
 fn marked(damage: &[u8], strip: Strip, predict: bool) -> Result<(Vec<u8>, usize), Refusal> {
@@ -107,8 +108,13 @@ fn strip(args: &Args) -> Result<Strip, Failure> {
     Ok(Strip { row_bytes: args.number("row-bytes")?, channels: args.number("channels")?, width: args.number("width")? })
 }
 
-fn order(args: &Args, name: &str) -> Result<ByteOrder, Failure> {
+/// Has to be said of samples of more than one byte, as a wrong guess would swap every one without a word.
+fn order(args: &Args, name: &str, width: usize) -> Result<ByteOrder, Failure> {
     match args.value(name) {
+        None if width > 1 => {
+            Err(args.wrong(format!("--{name} is missing: width {width} wants a byte order, le or be")))
+        }
+        // Samples of one byte are the same in both orders.
         None => Ok(ByteOrder::Little),
         Some(given) if given == "le" => Ok(ByteOrder::Little),
         Some(given) if given == "be" => Ok(ByteOrder::Big),
@@ -118,9 +124,6 @@ fn order(args: &Args, name: &str) -> Result<ByteOrder, Failure> {
 
 /// Has to be said, as a wrong guess would bend every row without a word.
 fn predict(args: &Args) -> Result<bool, Failure> {
-    match (args.has("predict"), args.has("no-predict")) {
-        (true, false) => Ok(true),
-        (false, true) => Ok(false),
-        _ => Err(args.wrong("one of --predict and --no-predict is wanted".into())),
-    }
+    let said = args.either("predict", "no-predict")?;
+    said.ok_or_else(|| args.wrong("one of --predict and --no-predict is wanted".into()))
 }

@@ -1,0 +1,133 @@
+//! The commands: what each takes, what is said of it, and what runs it.
+
+use crate::args::{Args, Opt, Syntax};
+use crate::failure::Failure;
+use crate::{demo, layouts, strips};
+use hamrisk::limits::{self, Served};
+
+pub struct Command {
+    pub syntax: Syntax,
+    pub about: &'static str,
+    /// What stands before the options in its help.
+    pub notes: &'static str,
+    pub run: fn(&Args) -> Result<(), Failure>,
+}
+
+const fn opt(name: &'static str, value: &'static str, about: &'static str) -> Opt {
+    Opt { name, value, about, served: None }
+}
+
+/// An option that takes a number of these.
+const fn number(name: &'static str, about: &'static str, served: Served) -> Opt {
+    Opt { name, value: "N", about, served: Some(served) }
+}
+
+/// What a picture's columns and rows may be.
+const SIDES: Served = Served::FromTo(1, limits::MOST_SIDE);
+
+const STRIP: &[Opt] = &[
+    opt("row-bytes", "N", "bytes of a row; required"),
+    number("channels", "samples of a pixel, {}; required", limits::CHANNELS),
+    number("width", "bytes of a sample: {}; required", limits::WIDTHS),
+];
+
+const PREDICT: &[Opt] = &[
+    opt("predict", "", "each sample but a row's first pixel is stored less the one a pixel before it"),
+    opt("no-predict", "", "samples are stored as they are; one of the two is required"),
+];
+
+const ORDERS: &[Opt] = &[
+    opt("from", "le|be", "the byte order of IN: least (le) or most (be) significant byte first"),
+    opt("to", "le|be", "the byte order of OUT; both are required if width is above 1"),
+];
+
+const LAYOUT: &[Opt] = &[
+    number("w", "columns of the picture, {}; required", SIDES),
+    number("h", "rows of the picture, {}; required", SIDES),
+    number("ch", "channels of a pixel of the picture, {}; 1 if not given", limits::LAYOUT_CH),
+    number("bytes", "bytes of a channel of the picture, {}; 1 if not given", limits::RENDERED_BYTES),
+    number(
+        "slots",
+        "samples in a byte of the planes: 8 if bilevel, {} with a palette; 1 if not given",
+        limits::LAYOUT_SLOTS,
+    ),
+    opt("palette", "", "the planes hold indices of colours; needs --ch 3"),
+    opt("separate", "", "each channel stands in a plane of its own"),
+    opt("le", "", "the planes and the palette have their least significant byte first"),
+    opt(
+        "be",
+        "",
+        "they have the most significant one first; one of the two is required if bytes is 2 or with a palette",
+    ),
+    opt("white", "", "0 is white; a palette ignores it"),
+    opt(
+        "alpha",
+        "N",
+        "0: none; 1: the last channel is alpha, the others are multiplied by it; 2: they are not; 0 if not given",
+    ),
+    opt("map", "N", "the byte of the palette's file at which the palette begins; 0 if not given"),
+];
+
+const RENDER: &[Opt] = &[
+    opt("file", "FILE", "the file that has the palette: all reds, greens, blues, two bytes each"),
+    opt("pnm", "", "write a PGM (ch 1 or 2) or a PPM (ch 3 or 4) to look at; alpha is left out"),
+];
+
+const MARKS: &[Opt] = &[opt("pgm", "", "write a PGM to look at, a pixel for each sample, white if marked")];
+
+const SWAP: &[Opt] = &[number("width", "bytes of a group, {}; required", limits::SWAP_WIDTHS)];
+
+const DEMO: &[Opt] = &[opt("to", "DIR", "where the pictures go; hamrisk-demo in the temporary folder if not given")];
+
+pub const COMMANDS: &[Command] = &[
+    Command {
+        syntax: Syntax { name: "convert", files: &["IN", "OUT"], groups: &[STRIP, PREDICT, ORDERS] },
+        about: "read the samples of the strip IN, predicted or not, and write them to OUT",
+        notes: "",
+        run: strips::convert,
+    },
+    Command {
+        syntax: Syntax { name: "forward", files: &["IN", "OUT"], groups: &[STRIP, PREDICT, ORDERS] },
+        about: "write the words that convert reads back to the samples IN",
+        notes: "",
+        run: strips::forward,
+    },
+    Command {
+        syntax: Syntax { name: "marks", files: &["DAMAGE", "OUT"], groups: &[STRIP, PREDICT, MARKS] },
+        about: "mark the samples of a strip that its damaged bytes can change, and print how many",
+        notes: "DAMAGE has a byte for each byte of the strip: 0 for sound, anything else for damaged.\n\
+                OUT gets a byte for each sample: 1 if it is marked, else 0.\n",
+        run: strips::marks,
+    },
+    Command {
+        syntax: Syntax { name: "swap", files: &["IN", "OUT"], groups: &[SWAP] },
+        about: "write each group of width bytes of IN backwards",
+        notes: "",
+        run: strips::swap,
+    },
+    Command {
+        syntax: Syntax { name: "reverse", files: &["IN", "OUT"], groups: &[] },
+        about: "write each byte of IN with its bits in the other order",
+        notes: "",
+        run: strips::reverse,
+    },
+    Command {
+        syntax: Syntax { name: "render", files: &["IN", "OUT"], groups: &[LAYOUT, RENDER] },
+        about: "write the picture that the planes IN hold",
+        notes: "Channels of two bytes come out most significant byte first.\n",
+        run: layouts::render,
+    },
+    Command {
+        syntax: Syntax { name: "planes", files: &["IN", "OUT"], groups: &[LAYOUT] },
+        about: "write the planes whose rendering is the picture IN",
+        notes: "Channels of two bytes are read most significant byte first, as render writes them.\n\
+                Palettes and alpha 1 are not written. Padding bits are 0.\n",
+        run: layouts::planes,
+    },
+    Command {
+        syntax: Syntax { name: "demo", files: &[], groups: &[DEMO] },
+        about: "show a shelf of depth samples, a lost packet, what a plain reader makes of it, and the marks",
+        notes: "",
+        run: demo::run,
+    },
+];

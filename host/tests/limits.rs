@@ -1,0 +1,87 @@
+//! The numbers of `hamrisk::limits`, held to what the library itself serves and refuses.
+
+use hamrisk::limits::{self, Served, MOST_PICTURE_BYTES, MOST_SIDE};
+use hamrisk::{
+    check_layout, check_strip, read_word, rendered, swap_components, written, ByteAt, ByteOrder, Layout, Refusal, Strip,
+};
+
+/// A layout that is served, of one pixel.
+const DOT: Layout = Layout::grey(1, 1, ByteOrder::Little);
+
+/// Whatever has not the number itself for its fault: the numbers beside it may not fit it.
+fn passes<T>(answer: Result<T, Refusal>) -> bool {
+    !matches!(answer, Err(Refusal::Unsupported))
+}
+
+/// Asks the library about every small value, those beside powers of two, and the largest.
+#[track_caller]
+fn assert_served(name: &str, served: Served, library: impl Fn(usize) -> bool) {
+    let large = (8..usize::BITS).flat_map(|bits| [(1 << bits) - 1, 1 << bits, (1 << bits) + 1]);
+    for value in (0..=256).chain(large).chain([usize::MAX]) {
+        assert_eq!(library(value), served.has(value), "{name} {value}; {served} are said to be served");
+    }
+}
+
+#[test]
+fn widths_and_channels() {
+    let strip = |channels, width| check_strip(0, Strip { row_bytes: 1, channels, width });
+    assert_served("width", limits::WIDTHS, |width| passes(strip(1, width)));
+    assert_served("width", limits::WIDTHS, |width| passes(read_word(&[0; 8], ByteAt(0), width, ByteOrder::Big)));
+    assert_served("width", limits::SWAP_WIDTHS, |width| passes(swap_components(&[], width, &mut [])));
+    assert_served("channels", limits::CHANNELS, |channels| passes(strip(channels, 1)));
+}
+
+#[test]
+fn fields_of_a_layout() {
+    let passes_check = |l: Layout| passes(check_layout(&l));
+    assert_served("ch", limits::LAYOUT_CH, |ch| passes_check(Layout { ch, ..DOT }));
+    assert_served("bytes", limits::LAYOUT_BYTES, |bytes| passes_check(Layout { bytes, ..DOT }));
+    assert_served("slots", limits::LAYOUT_SLOTS, |slots| passes_check(Layout { slots, ..DOT }));
+    assert_served("alpha", limits::LAYOUT_ALPHAS, |alpha| passes_check(Layout { alpha, ..DOT }));
+}
+
+#[test]
+fn pictures_rendered_and_written() {
+    let content = [0; 16];
+    let of_bytes = |bytes| Layout { bytes, ..DOT };
+    assert_served("bytes", limits::RENDERED_BYTES, |bytes| passes(rendered(&of_bytes(bytes), &[], &content)));
+    assert_served("bytes", limits::RENDERED_BYTES, |bytes| passes(written(&of_bytes(bytes), &content)));
+    let of_alpha = |alpha| Layout { ch: 2, alpha, ..DOT };
+    assert_served("alpha", limits::LAYOUT_ALPHAS, |alpha| passes(rendered(&of_alpha(alpha), &[], &content)));
+    assert_served("alpha", limits::WRITTEN_ALPHAS, |alpha| passes(written(&of_alpha(alpha), &content)));
+}
+
+#[test]
+fn sides_of_a_picture() {
+    for side in [MOST_SIDE - 1, MOST_SIDE, MOST_SIDE + 1, usize::MAX] {
+        for l in [Layout { w: side, ..DOT }, Layout { h: side, ..DOT }] {
+            let expected = if side > MOST_SIDE { Err(Refusal::Limit) } else { Ok(side) };
+            assert_eq!(check_layout(&l).map(|d| d.output_length), expected, "{l:?}");
+        }
+    }
+}
+
+/// For every width the most rows that fit are served, and one more are not: the nearest sizes on both sides of the limit.
+#[test]
+fn bytes_of_a_picture() {
+    let mut nearest = usize::MAX;
+    for (ch, bytes) in [(4, 1), (2, 2), (3, 2), (4, 2), (1, 8), (3, 8)] {
+        for w in 1..=MOST_SIDE {
+            let row = w * ch * bytes;
+            let h = (MOST_PICTURE_BYTES / row).min(MOST_SIDE);
+            assert_eq!(check_layout(&Layout { w, h, ch, bytes, ..DOT }).map(|d| d.output_length), Ok(row * h));
+            if h < MOST_SIDE {
+                assert_eq!(check_layout(&Layout { w, h: h + 1, ch, bytes, ..DOT }), Err(Refusal::Limit));
+                nearest = nearest.min(row * (h + 1));
+            }
+        }
+    }
+    assert_eq!(
+        check_layout(&Layout { w: MOST_SIDE, h: MOST_SIDE, ch: 4, ..DOT }).unwrap().output_length,
+        MOST_PICTURE_BYTES
+    );
+    assert!(
+        nearest < MOST_PICTURE_BYTES + 64,
+        "the smallest picture that is refused has {nearest} bytes: too far above"
+    );
+}
