@@ -3,7 +3,7 @@
 use mathlib.Core.Path.{_≡_, refl, sym, ap, _∙_}
 use mathlib.Core.Bool.{Bool, true, false, not, _||_, or-false}
 use mathlib.Core.List.{List}
-use Prim.Native.Nat.{ℕ, zero, suc, _+_, _-_, _/_, _%_, _≤_, _<_}
+use Prim.Native.Nat.{ℕ, zero, suc, _+_, _*_, _-_, _/_, _%_, _≤_, _<_}
 use native.Mathlib.Nat.{mul-one, add-zero, add-suc, add-assoc}
 use native.Mathlib.Decide.{decLt}
 use native.Mathlib.Omega.{arith}
@@ -84,13 +84,12 @@ pub struck-same : (width : ℕ) (s t : List ℕ) (i j : ℕ) → ((p : ℕ) → 
 unfolding struckAt
 struck-same width s t i j e = any-same width _ _ (λ p h. ap (λ (x : ℕ). not (eqb x 0)) (e p h))
 
-pub struck-one : (damage : List ℕ) (n : ℕ) → struck 1 damage n ≡ damaged damage n
-unfolding struckAt
-struck-one damage n = ap (damaged damage) (omega (arith, mul-one n))
-
 pub struck-byte : (damage : List ℕ) (at : ℕ) → damaged damage at ≡ struckAt 1 damage at
 unfolding struckAt
 struck-byte damage at = ap (damaged damage) (sym (add-zero at))
+
+pub struck-one : (damage : List ℕ) (n : ℕ) → struck 1 damage n ≡ damaged damage n
+struck-one damage n = sym (struck-byte damage (n * 1)) ∙ ap (damaged damage) (mul-one n)
 
 -- some bytes and the bytes after them
 or-together : (a b c : Bool) → (a || (b || c)) ≡ ((a || b) || c)

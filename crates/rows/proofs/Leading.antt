@@ -20,7 +20,7 @@ use Rattle.words.proofs.Words.{word-below}
 use Rattle.samples.specs.Sample.{Strip, wordOf, alone, storedAt}
 use Rattle.samples.specs.Promises.{reorderFaults, Reordered}
 use Rattle.samples.proofs.Sums.{sample-alone, difference-alone}
-use Rattle.rows.specs.Row.{oneRow, meant, RowServed, Led, LeadFits, LedInto, undoneAt, predictedAt, meantAt, TransformedInto}
+use Rattle.rows.specs.Row.{oneRow, meant, RowServed, Led, LeadFits, LedInto, meantAt, TransformedInto}
 
 module _ (raw : List ℕ) (b : Bytes raw) (channels width : ℕ) (some : 0 < width) (le out-le : Bool) (k : ℕ) (h : k < channels * width) where
   first : alone (oneRow raw channels width) true (k / width) ≡ true
@@ -29,11 +29,9 @@ module _ (raw : List ℕ) (b : Bytes raw) (channels width : ℕ) (some : 0 < wid
   itself : wordOf width le raw (k / width) % modulus width ≡ wordOf width le raw (k / width)
   itself = mod-eq-of-lt (word-below raw (k / width * width) width le b)
 
-  pub first-undone : storedAt width out-le (wordOf width le raw) k ≡ undoneAt raw channels width le out-le k
-  first-undone = ap (digit 256 (ordered out-le width (k % width))) (sym (sample-alone (oneRow raw channels width) true le raw (k / width) first ∙ itself))
-
-  pub first-predicted : storedAt width out-le (wordOf width le raw) k ≡ predictedAt raw channels width le out-le k
-  first-predicted = ap (digit 256 (ordered out-le width (k % width))) (sym (difference-alone (oneRow raw channels width) true le raw (k / width) first ∙ itself))
+  pub first-meant : (forward : Bool) → storedAt width out-le (wordOf width le raw) k ≡ meantAt raw channels width le out-le forward k
+  first-meant true = ap (digit 256 (ordered out-le width (k % width))) (sym (difference-alone (oneRow raw channels width) true le raw (k / width) first ∙ itself))
+  first-meant false = ap (digit 256 (ordered out-le width (k % width))) (sym (sample-alone (oneRow raw channels width) true le raw (k / width) first ∙ itself))
 
 -- going on from the first words, whatever the rest is
 module _ (f : ℕ → ℕ) (raw : List ℕ) (channels width : ℕ) (le out-le : Bool) (old mid : List ℕ) (row : RowServed raw channels width old) (agree : (k : ℕ) → k < channels * width → storedAt width out-le (wordOf width le raw) k ≡ f k) (is : LedInto raw (channels * width) width le out-le old mid) where
@@ -61,15 +59,14 @@ lead-fits {raw} {channels} {width} row = record {
 
 -- a row whose first words `lead` put there, predicted or undone
 module _ (raw : List ℕ) (b : Bytes raw) (channels width : ℕ) (le out-le forward : Bool) (old mid : List ℕ) (row : RowServed raw channels width old) (is : LedInto raw (channels * width) width le out-le old mid) where
-  agree : (f : Bool) (k : ℕ) → k < channels * width → storedAt width out-le (wordOf width le raw) k ≡ meantAt raw channels width le out-le f k
-  agree true = first-predicted raw b channels width (row .fits .wide) le out-le
-  agree false = first-undone raw b channels width (row .fits .wide) le out-le
+  agree : (k : ℕ) → k < channels * width → storedAt width out-le (wordOf width le raw) k ≡ meantAt raw channels width le out-le forward k
+  agree k h = first-meant raw b channels width (row .fits .wide) le out-le k h forward
 
   pub lead-on : Led (meantAt raw channels width le out-le forward) raw channels width mid
-  lead-on = goes-on _ raw channels width le out-le old mid row (agree forward) is
+  lead-on = goes-on _ raw channels width le out-le old mid row agree is
 
   pub lead-all : (new : List ℕ) → TransformedInto raw (oneRow raw channels width) true le out-le forward mid new → TransformedInto raw (oneRow raw channels width) true le out-le forward old new
-  lead-all = done-on _ raw channels width le out-le old mid row (agree forward) is
+  lead-all = done-on _ raw channels width le out-le old mid row agree is
 
 -- such a row fits the loop of its direction
 pub steps-fits : {raw : List ℕ} {channels width : ℕ} {forward f : Bool} {out : List ℕ} (le out-le : Bool) → forward ≡ f → (served width ≡ true) × Led (meantAt raw channels width le out-le forward) raw channels width out → (served width ≡ true) × Led (meantAt raw channels width le out-le f) raw channels width out

@@ -22,7 +22,7 @@ use Rattle.samples.proofs.Sums.{sample-alone, sample-later, difference-later}
 use Rattle.samples.proofs.Stored.{stored-byte}
 use Rattle.samples.proofs.Undo.{sample-below}
 use Rattle.words.specs.Promises.{served}
-use Rattle.rows.specs.Row.{oneRow, RowFits, HeldFits, Led, undoneAt, resumed, ResumedInto}
+use Rattle.rows.specs.Row.{oneRow, RowFits, HeldFits, Led, meantAt, resumed, ResumedInto}
 use Rattle.laws.proofs.Lists.{nothing, zeros}
 
 -- the buffer holds the words v, stored, up to `at`, of n bytes in all
@@ -103,7 +103,7 @@ carried-on raw channels width le start n some h = by (decLt n channels)
         (mod-add-mod (w + s) (modulus width) t ∙ ap (λ (x : ℕ). x % modulus width) together ∙ sym (add-mod-mod w (s + t) (modulus width)))
 
 -- a row that starts from nothing is the row
-pub resumed-none : (raw : List ℕ) (channels width : ℕ) (le out-le : Bool) (old : List ℕ) (n : ℕ) → 0 < channels → filled (length raw) (storedAt width out-le (resumed raw channels width le (nothing n))) old ≡ filled (length raw) (undoneAt raw channels width le out-le) old
+pub resumed-none : (raw : List ℕ) (channels width : ℕ) (le out-le : Bool) (old : List ℕ) (n : ℕ) → 0 < channels → filled (length raw) (storedAt width out-le (resumed raw channels width le (nothing n))) old ≡ filled (length raw) (meantAt raw channels width le out-le false) old
 resumed-none raw channels width le out-le old n some =
     filled-same (length raw) _ _ old (λ k h.
     ap (digit 256 (ordered out-le width (k % width)))

@@ -48,18 +48,9 @@ pub record RowFits (raw : List ℕ) (channels width : ℕ) (out : List ℕ) : Ty
   pub groups : length raw % (channels * width) ≡ 0
   pub room : length raw ≤ length out
 
-abbrev pub undoneAt : List ℕ → ℕ → ℕ → Bool → Bool → ℕ → ℕ
-undoneAt raw channels width le out-le = storedAt width out-le (sample (oneRow raw channels width) true le raw)
-
-abbrev pub predictedAt : List ℕ → ℕ → ℕ → Bool → Bool → ℕ → ℕ
-predictedAt raw channels width le out-le = storedAt width out-le (difference (oneRow raw channels width) true le raw)
-
 -- the bytes that are written of a row with prediction
 abbrev pub meantAt : List ℕ → ℕ → ℕ → Bool → Bool → Bool → ℕ → ℕ
 meantAt raw channels width le out-le forward = storedAt width out-le (meant forward (oneRow raw channels width) true le raw)
-
-abbrev pub UndoneInto : List ℕ → ℕ → ℕ → Bool → Bool → List ℕ → List ℕ → Type 0
-UndoneInto raw channels width le out-le old new = new ≡ filled (length raw) (undoneAt raw channels width le out-le) old
 
 -- sample n of a row that is taken up in its middle: that of the bytes from there on alone, and the sum so far of its channel
 abbrev pub resumed : List ℕ → ℕ → ℕ → Bool → List ℕ → ℕ → ℕ
@@ -67,9 +58,6 @@ resumed raw channels width le start n = plus width (sample (oneRow raw channels 
 
 abbrev pub ResumedInto : List ℕ → ℕ → ℕ → Bool → Bool → List ℕ → List ℕ → List ℕ → Type 0
 ResumedInto raw channels width le out-le start old new = new ≡ filled (length raw) (storedAt width out-le (resumed raw channels width le start)) old
-
-abbrev pub PredictedInto : List ℕ → ℕ → ℕ → Bool → Bool → List ℕ → List ℕ → Type 0
-PredictedInto raw channels width le out-le old new = new ≡ filled (length raw) (predictedAt raw channels width le out-le) old
 
 -- a row whose first `channels` words are written already
 pub record Led (f : ℕ → ℕ) (raw : List ℕ) (channels width : ℕ) (out : List ℕ) : Type 0 where

@@ -3,7 +3,7 @@ use crate::word;
 ghost use mathlib.Core.Path.{_≡_};
 ghost use mathlib.Core.Bool.{true};
 ghost use Rattle.words.specs.Promises.{served};
-ghost use Rattle.rows.specs.Row.{Led, predictedAt, PredictedInto};
+ghost use Rattle.rows.specs.Row.{oneRow, meantAt, Led, TransformedInto};
 
 pub(crate) fn differences(
     raw: &[u8],
@@ -13,8 +13,8 @@ pub(crate) fn differences(
     out_le: bool,
     out: &mut [u8],
 )
-    requires { ⌜ (served width ≡ true) × Led (predictedAt (now raw) channels width le «out_le») (now raw) channels width (now out) ⌝ }
-    ensures { λ r. ⌜ PredictedInto (now (raw .entry)) channels width le «out_le» (now (out .entry)) (now (out .exit)) ⌝ }
+    requires { ⌜ (served width ≡ true) × Led (meantAt (now raw) channels width le «out_le» true) (now raw) channels width (now out) ⌝ }
+    ensures { λ r. ⌜ TransformedInto (now (raw .entry)) (oneRow (now (raw .entry)) channels width) true le «out_le» true (now (out .entry)) (now (out .exit)) ⌝ }
 {
     let step = channels * width;
     let mut at = step;
