@@ -3,3 +3,4 @@ pub mod Groups
 pub mod Picks
 pub mod Lists
 pub mod Faults
+pub mod Turns

@@ -1,0 +1,23 @@
+-- `directory::pages::lay_out` meets its contract: the layout check's refusal, or the page. Assumes nothing.
+use Rattle.answer.proofs.Promised.{finishing, refusing}
+use Rattle.directory.proofs.Laying.{laid, laid-small, unlaid}
+use Rattle.layout.specs.Layout.{layoutFaults}
+use borrow.Author.Needs.{needs}
+use Rattle.directory.proofs.pages.lay_out.Statement.{statement}
+use Rattle.directory.proofs.pages.lay_out.Tie as tie
+
+pub lay-out-spec : {M : Type 1} → statement M
+lay-out-spec =
+    tie.close
+    (tie.spec
+    (λ c κs. search needs)
+    (λ c. search needs)
+    (λ c. search needs)
+    (λ c κs. let told = c .before in let check = told .before .before in laid-small (check .before .args .f) _ (laid (check .before .args .f) _ _ (check .check-layout .ensures) (told .l .given .1)))
+    (λ c. let told = c .before in let check = told .before .before in refusing (layoutFaults (check .before .args .f)) _ (unlaid (check .before .args .f) _ _ (check .check-layout .ensures) (told .k .given .1)))
+    (λ c.
+    let told = c .before .before in
+    let check = told .before .before in
+    let f = check .before .args .f in
+    let is = laid f _ _ (check .check-layout .ensures) (told .l .given .1) in
+    rw (c .strips-by .ensures, is .0) (finishing (layoutFaults f) _ (is .1))))

@@ -1,0 +1,4 @@
+pub mod Entries
+pub mod Tags
+pub mod Page
+pub mod Parts
