@@ -5,6 +5,7 @@ use answer::Done;
 use answer::SampleAt;
 
 mod layouts;
+mod pages;
 
 ghost use mathlib.Core.Path.{_≡_};
 ghost use Rattle.answer.specs.Outcome.{doneOutcome};
