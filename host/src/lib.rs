@@ -26,6 +26,7 @@
 mod ffi;
 pub mod limits;
 mod owned;
+mod reading;
 mod types;
 
 pub use ffi::{
@@ -33,4 +34,5 @@ pub use ffi::{
     swap_components, write_planes,
 };
 pub use owned::{converted, forwarded, marked, rendered, written};
+pub use reading::{explain, explain_strip, Fault, LayoutFault, Reading, TagFault};
 pub use types::{ByteAt, ByteOrder, Coding, Derived, Layout, Refusal, SampleAt, Strip};
