@@ -216,7 +216,7 @@ fn directory(file: &[u8], page: usize) -> Result<Directory<'_>, Fault> {
 }
 
 /// The directory that a pointer leads to, that of page `this` on the way to `page`.
-fn directory_at(source: Source, page: usize, this: usize, at: u64) -> Result<Directory<'_>, Fault> {
+fn directory_at(source: Source<'_>, page: usize, this: usize, at: u64) -> Result<Directory<'_>, Fault> {
     let length = source.length();
     if at == 0 {
         return Err(Fault::NoPage { page, pages: this });
@@ -503,7 +503,7 @@ impl fmt::Display for Fault {
                 )
             }
             Fault::DirectoryEnd { page, at, entries, end, length } => {
-                write!(f, "page {page}: the directory at byte {at}, with {entries} entries, ends at byte {end}, ")?;
+                write!(f, "page {page}: the directory at byte {at}, of count {entries}, ends at byte {end}, ")?;
                 write!(f, "and the file at byte {length}")
             }
             Fault::TagOrder { page, entry, tag, before } => {
@@ -518,7 +518,10 @@ impl fmt::Display for Fault {
             Fault::NoStrip { strip, strips } => write!(f, "strip {strip} is not there: the page has {strips} strips"),
             Fault::StripLength { strip, length, rows, row_bytes } => {
                 let needed = rows * row_bytes;
-                write!(f, "strip {strip}: its byte count is {length}, not {rows} rows × {row_bytes} bytes ({needed})")
+                write!(
+                    f,
+                    "strip {strip}: its byte count is {length}, not rows {rows} × row bytes {row_bytes} ({needed})"
+                )
             }
             Fault::StripEnd { strip, place, length, file } => {
                 let end = place + length;
@@ -550,19 +553,19 @@ impl TagFault {
             TagFault::Value { value, .. } => write!(f, "its value is {value}; served are {}", values(tag)),
             TagFault::NoRows => write!(f, "its value is 0: a strip has rows"),
             TagFault::SamplesOfBits { samples, bits } => {
-                write!(f, "its value is {samples}, and {} has {bits} values", Named(258))
+                write!(f, "its value is {samples}, and the count of {} is {bits}", Named(258))
             }
             TagFault::SamplesOfKind { samples, own } => {
                 write!(f, "its value is {samples}; {} asks for {own}, or {} with alpha", Named(262), own + 1)
             }
             TagFault::LengthsOfPlaces { lengths, places } => {
-                write!(f, "its count is {lengths}, and that of {} is {places}", Named(273))
+                write!(f, "its count is {lengths}, and the count of {} is {places}", Named(273))
             }
             TagFault::PlacesOfStrips { places, strips } => {
-                write!(f, "the picture has {strips} strips, and {} has {places} values", Named(273))
+                write!(f, "strips of the picture: {strips}, and the count of {} is {places}", Named(273))
             }
             TagFault::ColoursOfBits { found, needed } => {
-                write!(f, "its count is {found}; the palette of {} has {needed} values", Named(258))
+                write!(f, "its count is {found}; {} asks for {needed}", Named(258))
             }
             TagFault::ExtraSamples { samples, own, extra: 0 } => {
                 write!(f, "it is missing, and {} is {samples}; {} asks for {own}", Named(277), Named(262))
@@ -630,5 +633,183 @@ impl fmt::Display for LayoutFault {
                 write!(f, "above {MOST_PICTURE_BYTES}")
             }
         }
+    }
+}
+
+#[cfg(test)]
+mod tests {
+    use super::*;
+
+    type Entry = (u16, u16, u32, u32);
+
+    /// 4 columns and 3 rows of grey bytes, two rows to a strip; the strips stand from byte 200, their places at byte 180.
+    const GREY: [Entry; 8] = [
+        (256, 3, 1, 4),
+        (257, 4, 1, 3),
+        (258, 3, 1, 8),
+        (262, 3, 1, 1),
+        (273, 4, 2, 180),
+        (277, 3, 1, 1),
+        (278, 3, 1, 2),
+        (279, 3, 2, 8 + (4 << 16)),
+    ];
+
+    /// A file of 220 bytes with its directory at byte 8, least significant byte first.
+    fn file(entries: &[Entry]) -> Vec<u8> {
+        let mut file = vec![b'I', b'I', 42, 0, 8, 0, 0, 0];
+        file.extend((entries.len() as u16).to_le_bytes());
+        for (tag, kind, count, value) in entries {
+            file.extend([tag.to_le_bytes(), kind.to_le_bytes()].concat());
+            file.extend([count.to_le_bytes(), value.to_le_bytes()].concat());
+        }
+        file.resize(220, 0);
+        file[180..184].copy_from_slice(&200u32.to_le_bytes());
+        file[184..188].copy_from_slice(&208u32.to_le_bytes());
+        file
+    }
+
+    /// The grey file with one entry in place of that of its tag, or beside the others.
+    fn with(entry: Entry) -> Vec<u8> {
+        let mut entries: Vec<Entry> = GREY.into_iter().filter(|e| e.0 != entry.0).collect();
+        entries.push(entry);
+        entries.sort();
+        file(&entries)
+    }
+
+    #[track_caller]
+    fn assert_fault(file: &[u8], page: usize, refusal: Refusal, text: &str) {
+        let fault = explain(file, page).unwrap_err();
+        assert_eq!((fault.refusal(), fault.to_string().as_str()), (refusal, text));
+    }
+
+    #[test]
+    fn a_grey_page_of_two_strips() {
+        let layout = Layout::grey(4, 3, ByteOrder::Little);
+        let reading = Reading { layout, predictor: 1, strips: vec![(200, 8), (208, 4)] };
+        assert_eq!(explain(&file(&GREY), 0), Ok(reading));
+        assert_eq!(explain_strip(&file(&GREY), 0, 1), Ok((208, 4)));
+    }
+
+    #[test]
+    fn a_short_in_the_entry_of_a_big_endian_file_stands_in_its_high_half() {
+        let entries: [[u8; 12]; 5] = [
+            [1, 0, 0, 3, 0, 0, 0, 1, 0, 9, 0xFF, 0xFF],
+            [1, 1, 0, 3, 0, 0, 0, 1, 0, 2, 0xFF, 0xFF],
+            [1, 6, 0, 3, 0, 0, 0, 1, 0, 0, 0xFF, 0xFF],
+            [1, 17, 0, 4, 0, 0, 0, 1, 0, 0, 0, 0],
+            [1, 23, 0, 3, 0, 0, 0, 1, 0, 4, 0xFF, 0xFF],
+        ];
+        let file = [&[b'M', b'M', 0, 42, 0, 0, 0, 8, 0, 5][..], &entries.concat(), &[0; 4]].concat();
+        let layout = Layout { white: true, ..Layout::bilevel(9, 2, ByteOrder::Big) };
+        assert_eq!(explain(&file, 0), Ok(Reading { layout, predictor: 1, strips: vec![(0, 4)] }));
+    }
+
+    #[test]
+    fn the_file_and_its_pages() {
+        let good = file(&GREY);
+        let mut looped = good.clone();
+        looped[10 + 12 * GREY.len()] = 8;
+        assert_eq!(explain(&looped, 15), explain(&good, 0));
+        assert_fault(&[], 16, Refusal::Limit, "page 16 is above 15, the highest that is read");
+        assert_fault(&good[..7], 0, Refusal::Truncated, "the file's length is 7; a header has 8 bytes");
+        assert_fault(b"IM*\0\0\0\0\0", 0, Refusal::Invalid, "the file begins with bytes 73 and 77, not with II or MM");
+        assert_fault(b"MM*\0\0\0\0\0", 0, Refusal::Invalid, "the number at byte 2 is 10752, not TIFF's 42");
+        assert_fault(b"II*\0\0\0\0\0", 3, Refusal::Invalid, "page 3 is not there: the file has 0 pages");
+        assert_fault(&good, 2, Refusal::Invalid, "page 2 is not there: the file has 1 page");
+    }
+
+    #[test]
+    fn directories() {
+        let good = file(&GREY);
+        let text = "page 0: its directory is at byte 8, and the file ends at byte 9";
+        assert_fault(&good[..9], 0, Refusal::Truncated, text);
+        let text = "page 0: the directory at byte 8, of count 8, ends at byte 110, and the file at byte 109";
+        assert_fault(&good[..109], 0, Refusal::Truncated, text);
+        let text = "page 0: the directory at byte 8 says 65 entries; at most 64 are read";
+        assert_fault(b"II*\0\x08\0\0\0\x41\0", 0, Refusal::Limit, text);
+        let twice = file(&[(256, 3, 1, 4), (256, 3, 1, 4)]);
+        let text = "page 0: entry 1 has tag 256, not above tag 256 of the entry before it";
+        assert_fault(&twice, 0, Refusal::Invalid, text);
+    }
+
+    #[test]
+    fn entries() {
+        let text = "tag 256 (ImageWidth): it is missing and has no default";
+        assert_fault(&file(&GREY[1..]), 0, Refusal::Invalid, text);
+        let text = "tag 256 (ImageWidth): its type is 5, neither 3 (SHORT) nor 4 (LONG)";
+        assert_fault(&with((256, 5, 9, 4)), 0, Refusal::Invalid, text);
+        let text = "tag 262 (PhotometricInterpretation): its type is 4, not 3 (SHORT)";
+        assert_fault(&with((262, 4, 1, 1)), 0, Refusal::Invalid, text);
+        assert_fault(&with((257, 3, 2, 3)), 0, Refusal::Invalid, "tag 257 (ImageLength): its count is 2, not 1");
+        assert_fault(&with((273, 4, 0, 180)), 0, Refusal::Invalid, "tag 273 (StripOffsets): its count is 0");
+        let text = "tag 273 (StripOffsets): its 8 bytes at byte 213 end at byte 221, and the file at byte 220";
+        assert_fault(&with((273, 4, 2, 213)), 0, Refusal::Truncated, text);
+        let text = "tag 258 (BitsPerSample): value 2 is 0; served are 1, 4, 8 and 16, the same for all samples";
+        let mut bits = with((258, 3, 3, 190));
+        bits[190..194].copy_from_slice(&[8, 0, 8, 0]);
+        assert_fault(&bits, 0, Refusal::Unsupported, text);
+    }
+
+    #[test]
+    fn contradictions() {
+        let text = "tag 277 (SamplesPerPixel): its value is 2, and the count of tag 258 (BitsPerSample) is 1";
+        assert_fault(&with((277, 3, 1, 2)), 0, Refusal::Invalid, text);
+        let text = "tag 277 (SamplesPerPixel): its value is 1; tag 262 (PhotometricInterpretation) asks for 3, or 4 with alpha";
+        assert_fault(&with((262, 3, 1, 2)), 0, Refusal::Invalid, text);
+        let text = "tag 279 (StripByteCounts): its count is 1, and the count of tag 273 (StripOffsets) is 2";
+        assert_fault(&with((279, 3, 1, 12)), 0, Refusal::Invalid, text);
+        let text =
+            "tag 284 (PlanarConfiguration): strips of the picture: 3, and the count of tag 273 (StripOffsets) is 2";
+        assert_fault(&with((278, 3, 1, 1)), 0, Refusal::Invalid, text);
+        let text = "tag 338 (ExtraSamples): it asks for 2 samples to a pixel, and tag 277 (SamplesPerPixel) is 1";
+        assert_fault(&with((338, 3, 1, 2)), 0, Refusal::Invalid, text);
+        assert_fault(
+            &with((278, 3, 1, 0)),
+            0,
+            Refusal::Invalid,
+            "tag 278 (RowsPerStrip): its value is 0: a strip has rows",
+        );
+        assert_fault(
+            &with((262, 3, 1, 3)),
+            0,
+            Refusal::Invalid,
+            "tag 320 (ColorMap): it is missing and has no default",
+        );
+    }
+
+    #[test]
+    fn layouts() {
+        assert_fault(
+            &with((256, 4, 1, 16_385)),
+            0,
+            Refusal::Limit,
+            "tag 256 (ImageWidth): its value is 16385; at most 16384 is read",
+        );
+        assert_fault(
+            &with((256, 4, 1, 0)),
+            0,
+            Refusal::Invalid,
+            "tag 256 (ImageWidth): its value is 0: that leaves no picture",
+        );
+        assert_fault(
+            &with((258, 3, 1, 4)),
+            0,
+            Refusal::Invalid,
+            "tag 258 (BitsPerSample): samples of 4 bits go with a palette alone",
+        );
+    }
+
+    #[test]
+    fn strips() {
+        let text = "strip 1: its byte count is 8, not rows 1 × row bytes 4 (4)";
+        let short = with((279, 3, 2, 8 + (8 << 16)));
+        assert_fault(&short, 0, Refusal::Invalid, text);
+        assert_eq!(explain_strip(&short, 0, 0), Ok((200, 8)));
+        let text = "strip 1: at byte 208 with 4 bytes it ends at byte 212, the file at byte 211";
+        let cut = &file(&GREY)[..211];
+        assert_fault(cut, 0, Refusal::Truncated, text);
+        assert_eq!(explain_strip(cut, 0, 0), Ok((200, 8)));
+        let fault = explain_strip(cut, 0, 2).unwrap_err();
+        assert_eq!(fault.to_string(), "strip 2 is not there: the page has 2 strips");
     }
 }
