@@ -2,10 +2,10 @@
 
 use crate::made::{made, made_with_wide_palette, Made};
 use crate::numbers::{check, seven};
-use crate::plain;
 use crate::random::Random;
 use crate::spoiled::spoiled;
-use hamrisk::{explain, explain_strip, ByteOrder, Fault, Layout, LayoutFault, Reading, TagFault};
+use crate::{plain, told};
+use hamrisk::{explain, explain_strip, strip, ByteOrder, Fault, Layout, LayoutFault, Reading, TagFault};
 use std::collections::BTreeMap;
 use std::thread;
 
@@ -192,11 +192,12 @@ fn compare_strips(random: &mut Random, file: &[u8], page: usize, expected: &Resu
     check(CANARY, room, parts, |parts| unsafe { hamrisk_strips(file.as_ptr(), file.len(), page, parts, room) });
 }
 
-/// A strip's place and length, with a number between them that is not to be written; then its bytes.
+/// A strip's place and length, with a number between them that is not to be written, and its bytes.
 fn compare_strip(file: &[u8], page: usize, k: usize, tally: &mut Tally) {
     let expected = explain_strip(file, page, k);
     tally.note(&expected);
     let expected = expected.map_err(|fault| fault.refusal().number());
+    assert_eq!(told(strip(file, page, k)), expected.map(|(place, length)| &file[place..place + length]));
     let numbers = expected.map(|(place, length)| vec![place, CANARY, length]);
     // SAFETY: the pointers are those of a slice and of two numbers out of three.
     check(CANARY, 3, numbers, |place| unsafe {
@@ -229,18 +230,15 @@ fn compare(random: &mut Random, file: &Made, tally: &mut Tally) {
     compare_directory(bytes, page, &expected);
     compare_strips(random, bytes, page, &expected);
     let strips = file.pages.get(page).map_or(0, |page| page.strips);
-    for _ in 0..2 {
-        let k = any_strip(random, strips);
-        compare_strip(bytes, page, k, tally);
-    }
+    compare_strip(bytes, page, any_strip(random, strips), tally);
 }
 
 /// As many spoiled files from this seed.
 fn compare_many(seed: u64, files: usize) -> Tally {
     let (mut random, mut tally) = (Random::new(seed), Tally::default());
-    for _ in 0..files / 25 {
+    for _ in 0..files / 50 {
         let good = made(&mut random);
-        for _ in 0..25 {
+        for _ in 0..50 {
             let file = spoiled(&mut random, &good);
             compare(&mut random, &file, &mut tally);
         }

@@ -1,6 +1,7 @@
 //! Files made to be read: every kind of page that the rules serve, and kinds whose layout alone is refused.
 
 use crate::random::Random;
+use std::rc::Rc;
 
 /// The tags that the rules look at.
 pub const USED: [u64; 13] = [256, 257, 258, 259, 262, 273, 277, 278, 279, 284, 317, 320, 338];
@@ -10,11 +11,10 @@ pub const USED: [u64; 13] = [256, 257, 258, 259, 262, 273, 277, 278, 279, 284, 3
 pub struct Made {
     pub bytes: Vec<u8>,
     pub little: bool,
-    pub pages: Vec<Page>,
+    pub pages: Vec<Rc<Page>>,
 }
 
-/// Where a page's directory and the pointer to it stand, and its tags.
-#[derive(Clone)]
+/// Where a page's directory and the pointer to it stand, its tags and how many strips it has.
 pub struct Page {
     pub pointer: usize,
     pub at: usize,
@@ -180,7 +180,7 @@ impl Made {
         }
         self.put(at + length - 4, 0, 4);
         let tags = fields.iter().map(|field| field.0).collect();
-        self.pages.push(Page { pointer, at, tags, strips: picture.lengths().len() });
+        self.pages.push(Rc::new(Page { pointer, at, tags, strips: picture.lengths().len() }));
         at + length - 4
     }
 
@@ -289,7 +289,11 @@ fn add_unused(random: &mut Random, fields: &mut Vec<Field>) {
         _ => 0,
     };
     for _ in 0..most {
-        let tag = random.one_of(&[random.below(65_536) as u64, 254 + random.below(90) as u64, 320]);
+        let tag = match random.below(4) {
+            0 => 320,
+            1 => random.below(65_536) as u64,
+            _ => 254 + random.below(90) as u64,
+        };
         let palette = fields.iter().any(|(tag, _, values)| *tag == 262 && *values == [3]);
         let unused = !USED.contains(&tag) || (tag == 320 && !palette);
         if unused && fields.iter().all(|field| field.0 != tag) {

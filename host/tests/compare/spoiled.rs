@@ -24,7 +24,8 @@ fn spoil(random: &mut Random, file: &mut Made) {
         5 => spoil_byte(random, file, page.at, 2 + 12 * page.tags.len() + 4),
         6 => remove_entry(random, file, &page),
         7 => swap_entries(random, file, &page),
-        8..=11 => spoil_list(random, file, &page),
+        8 => add_entry(random, file, &page),
+        9..=11 => spoil_list(random, file, &page),
         _ => spoil_field(random, file, &page),
     }
 }
@@ -44,18 +45,18 @@ fn edge(random: &mut Random, file: &Made) -> u64 {
 }
 
 fn spoil_header(random: &mut Random, file: &mut Made) {
-    match random.below(4) {
-        0 => file.bytes[0] = random.one_of(b"IMJ"),
-        1 => file.bytes[1] = random.one_of(b"IM\0"),
-        2 => file.put(2, random.one_of(&[0, 41, 43, 42 << 8]), 2),
-        _ => file.bytes.swap(2, 3),
+    match random.below(3) {
+        0 => file.put(0, random.one_of(b"IMJ").into(), 1),
+        1 => file.put(1, random.one_of(b"IM\0").into(), 1),
+        _ => file.put(2, random.one_of(&[0, 41, 43, 42 << 8]), 2),
     }
 }
 
 /// The pointer to a page: none, past the end, or back to a page that was there.
 fn spoil_pointer(random: &mut Random, file: &mut Made, page: &Page) {
     let back = file.pages[random.below(file.pages.len())].at as u64;
-    let pointer = random.one_of(&[0, back, back, 8, edge(random, file)]);
+    let edge = edge(random, file);
+    let pointer = random.one_of(&[0, back, back, 8, edge]);
     let last = page.at + 2 + 12 * page.tags.len();
     file.put(random.one_of(&[page.pointer, last]), pointer, 4);
 }
@@ -83,7 +84,8 @@ fn cut(random: &mut Random, file: &mut Made, page: &Page) {
 
 fn spoil_byte(random: &mut Random, file: &mut Made, from: usize, length: usize) {
     let at = from + random.below(length.max(1));
-    let value = random.one_of(&[0, 1, 2, 3, 4, 8, 16, 127, 128, 255, random.next() & 0xFF]);
+    let any = random.next() & 0xFF;
+    let value = random.one_of(&[0, 1, 2, 3, 4, 8, 16, 127, 128, 255, any]);
     file.put(at, value, 1);
 }
 
@@ -94,6 +96,20 @@ fn remove_entry(random: &mut Random, file: &mut Made, page: &Page) {
     if end <= file.bytes.len() {
         file.bytes.copy_within(entry + 12..end, entry);
         file.put(page.at, page.tags.len() as u64 - 1, 2);
+    }
+}
+
+/// An entry of a used tag put in at its place; all that comes after it moves on, and the places that are said stay.
+fn add_entry(random: &mut Random, file: &mut Made, page: &Page) {
+    let tag = random.one_of(&USED);
+    let entry = page.at + 2 + 12 * page.tags.iter().filter(|&&before| before < tag).count();
+    if page.tags.contains(&tag) || entry > file.bytes.len() {
+        return;
+    }
+    file.bytes.splice(entry..entry, [0; 12]);
+    file.put(page.at, page.tags.len() as u64 + 1, 2);
+    for (at, value, size) in [(0, tag, 2), (2, 3, 2), (4, 1, 4), (8, random.below(4) as u64, 2)] {
+        file.put(entry + at, value, size);
     }
 }
 
@@ -125,8 +141,8 @@ fn spoil_field(random: &mut Random, file: &mut Made, page: &Page) {
     let count = file.get(entry + 4, 4);
     match random.below(8) {
         0 => {
-            let tag = file.get(entry, 2);
-            file.put(entry, random.one_of(&[tag + 1, tag.saturating_sub(1), random.one_of(&USED)]), 2);
+            let (tag, used) = (file.get(entry, 2), random.one_of(&USED));
+            file.put(entry, random.one_of(&[tag + 1, tag.saturating_sub(1), used]), 2);
         }
         1 => file.put(entry + 2, random.one_of(&[0, 1, 2, 3, 3, 4, 4, 5, 8, 16, 0x0300, 0x0400]), 2),
         2 | 3 => {
