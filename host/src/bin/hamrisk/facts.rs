@@ -85,6 +85,7 @@ fn alpha(kind: usize) -> &'static str {
 fn sound(strips: &[Placed]) -> String {
     match (strips.len(), strips.iter().flatten().count()) {
         (all, sound) if sound == all => all.to_string(),
+        (all, 1) => format!("{all}, of which 1 is sound"),
         (all, sound) => format!("{all}, of which {sound} are sound"),
     }
 }
