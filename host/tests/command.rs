@@ -520,7 +520,7 @@ fn help_of_each() {
         ("swap", "bytes of a group, 1 to 8; required"),
         ("render", "columns of the picture, 1 to 16384; required"),
         ("planes", "channels of a pixel of the picture, 1 to 4; 1 if not given"),
-        ("info", "which page, 0 to 15, the first being 0; 0 if not given"),
+        ("info", "which page, 0 to 15; 0, the first, if not given"),
     ] {
         let (_, text, _) = folder.run(&format!("{name} --help"));
         assert!(text.contains(served), "{text}");
@@ -567,6 +567,7 @@ alpha: 0 (none)
 predictor: 2 (each sample less the one a pixel before it)
 strips: 3
 rows of a strip: 2, the last 1
+row bytes: 6
 bytes of the samples: 30
 bytes of the picture: 30
 ";

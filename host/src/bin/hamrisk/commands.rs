@@ -80,7 +80,7 @@ Channels of two bytes come out most significant byte first. An OUT called .pgm, 
 leave it out.
 ";
 
-const PAGE: &[Opt] = &[number("page", "which page, {}, the first being 0; 0 if not given", limits::PAGES)];
+const PAGE: &[Opt] = &[number("page", "which page, {}; 0, the first, if not given", limits::PAGES)];
 
 const STRIPS: &[Opt] = &[opt("strips", "", "a line for each strip too: its number, its place in FILE and its length")];
 

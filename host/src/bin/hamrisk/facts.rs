@@ -25,6 +25,7 @@ pub fn of_page(file: &[u8], number: usize, page: &Page, strips: &[Placed]) -> St
         ("strips", sound(strips)),
     ];
     facts.extend(rows(page, strips).map(|rows| ("rows of a strip", rows)));
+    facts.push(("row bytes", page.geometry().row_bytes.to_string()));
     facts.push(("bytes of the samples", page.derived.scratch_length.to_string()));
     facts.push(("bytes of the picture", page.derived.output_length.to_string()));
     facts.iter().map(|(name, value)| format!("{name}: {value}\n")).collect()
@@ -116,9 +117,11 @@ fn of_strip(file: &[u8], number: usize, k: usize, refusal: Refusal) -> String {
 
 /// What is said where the second reading of a file does not find the fault for which the library refuses it.
 pub fn disagreement(fault: Option<Fault>) -> String {
-    let found = match fault {
-        Some(fault) => format!("{} {:?}: {fault}", fault.refusal().number(), fault.refusal()),
-        None => "no fault".into(),
-    };
-    format!("which tag or strip it is about is not known, for the second reading of the file finds {found}; this is a fault of hamrisk: please report it")
+    let found = fault.map_or("no fault".into(), |fault| {
+        let refusal = fault.refusal();
+        format!("{} {refusal:?}: {fault}", refusal.number())
+    });
+    format!(
+        "the second reading of the file, which names the tag or strip, finds {found}; this is a fault of hamrisk: please report it"
+    )
 }

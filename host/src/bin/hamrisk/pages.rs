@@ -106,3 +106,20 @@ fn order(args: &Args, page: &Page) -> Result<ByteOrder, Failure> {
         None => Ok(ByteOrder::Little),
     }
 }
+
+#[cfg(test)]
+mod tests {
+    use super::*;
+
+    /// A refusal that the second reading does not account for is told as such, with its own number.
+    #[test]
+    fn a_disagreement_is_a_fault_of_ours() {
+        let asked = Asked { call: "picture", file: b"II*\0".to_vec(), page: 0 };
+        let told = |refusal| asked.refused(refusal).to_string();
+        assert!(!told(Refusal::Truncated).contains("fault of hamrisk"));
+        let text = told(Refusal::Limit);
+        assert!(text.starts_with("picture refused: 5 Limit: "), "{text}");
+        assert!(text.contains("finds 3 Truncated: ") && text.contains("fault of hamrisk"), "{text}");
+        assert_eq!(asked.refused(Refusal::Limit).status(), 5);
+    }
+}
