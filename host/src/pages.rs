@@ -1,8 +1,4 @@
-//! What a user wants of a TIFF file in one call: the picture of a page, or its samples.
-//!
-//! A page's strips may overlap in the file, so a file of 200 KB can hold a picture of 1 GiB, the most that is served.
-//! Where that is too much, [`read_directory`] says beforehand what a page needs: scratch length for its samples, and
-//! output length as well for its picture.
+//! What a user wants of a TIFF file in one call: the picture of a page, its samples, or where its strips stand.
 
 use crate::*;
 use std::ops::Range;
@@ -29,6 +25,10 @@ pub struct Samples {
 ///
 /// Refuses: as [`read_directory`]; then planes or a picture that there is no memory for is Limit.
 ///
+/// Strips may overlap in the file, so a file of 200 KB can hold a picture of 1 GiB, the most that is served. Where that is
+/// too much, [`read_directory`] says beforehand what a page takes: scratch length for its samples, and output length
+/// beside it for its picture.
+///
 /// ```
 /// use hamrisk::{picture, Refusal};
 ///
@@ -54,7 +54,7 @@ pub fn picture(file: &[u8], page: usize) -> Result<Picture, Refusal> {
 /// The samples of a page of a TIFF file, counted from 0, in the asked byte order: its strips gathered, and prediction
 /// undone. Samples of 8 bits and fewer are the same in both orders.
 ///
-/// Refuses: as [`read_directory`]; then planes that there is no memory for is Limit.
+/// Refuses: as [`read_directory`]; then planes that there is no memory for, as of [`picture`], is Limit.
 ///
 /// ```
 /// # let entry = |tag: u8, value: u8| [tag, 1, 3, 0, 1, 0, 0, 0, value, 0, 0, 0];

@@ -141,6 +141,12 @@ pub fn explain_strip(file: &[u8], page: usize, k: usize) -> Result<(usize, usize
     strip(&fields, k)
 }
 
+/// Layout, predictor and number of strips of a page, or the first fault of all that [`explain`] looks at before strips.
+pub fn explain_layout(file: &[u8], page: usize) -> Result<(Layout, usize, usize), Fault> {
+    let fields = fields(&directory(file, page)?)?;
+    Ok((layout(&fields)?, fields.predictor as usize, fields.places.count as usize))
+}
+
 /// A file's bytes, read as numbers in its byte order.
 #[derive(Clone, Copy)]
 struct Source<'a> {
