@@ -6,7 +6,9 @@ use crate::numbers::{check, seven};
 use crate::random::Random;
 use crate::spoiled::spoiled;
 use crate::{plain, told};
-use hamrisk::{explain, explain_strip, strip, ByteOrder, Fault, Layout, LayoutFault, Reading, TagFault};
+use hamrisk::{
+    explain, explain_strip, placed, read_directory, strip, ByteOrder, Fault, Layout, LayoutFault, Reading, TagFault,
+};
 use std::collections::BTreeMap;
 use std::thread;
 
@@ -206,6 +208,19 @@ fn compare_strip(file: &[u8], page: usize, k: usize, tally: &mut Tally) {
     });
 }
 
+/// The calls of the Rust API that answer a page and all its places.
+fn compare_rust(file: &[u8], page: usize, expected: &Result<Reading, u32>) {
+    let found = told(read_directory(file, page)).map(|found| {
+        let predictor = if found.predict { 2 } else { 1 };
+        assert_eq!(Ok(found.derived), plain::check_layout(&found.layout));
+        (found.layout, predictor, found.strips)
+    });
+    let wanted = expected.clone().map(|reading| (reading.layout, reading.predictor, reading.strips.len()));
+    assert_eq!(found, wanted);
+    let places = told(placed(file, page)).map(|places| places.iter().map(|p| (p.start, p.len())).collect());
+    assert_eq!(places, expected.clone().map(|reading| reading.strips));
+}
+
 /// Says which file it was when a test fails.
 struct Shown<'a> {
     file: &'a Made,
@@ -231,6 +246,9 @@ fn compare(random: &mut Random, file: &Made, tally: &mut Tally) {
     let expected = answer.map_err(|fault| fault.refusal().number());
     compare_directory(bytes, page, &expected);
     compare_strips(random, bytes, page, &expected);
+    if random.below(8) == 0 {
+        compare_rust(bytes, page, &expected);
+    }
     let strips = file.pages.get(page).map_or(0, |page| page.strips);
     compare_strip(bytes, page, any_strip(random, strips), tally);
     lent.assert_kept();

@@ -1,7 +1,7 @@
 //! Files that tifffile, Pillow and libtiff write, and what each reads of its own, held against [`hamrisk::picture`]: a
 //! few that are kept in `tests/files`, and fresh ones of `make.py` where the three are installed.
 
-use hamrisk::{picture, Refusal};
+use hamrisk::{picture, rendered, samples, Refusal};
 use std::fs;
 use std::path::{Path, PathBuf};
 use std::process::Command;
@@ -28,6 +28,9 @@ fn compare(folder: &Path) -> Vec<String> {
                 panic!("{name}, page {page}: {refusal:?}: {fault}")
             });
             assert_eq!(ours.bytes, *bytes, "{name}, page {page}: ours, and what its maker reads");
+            let layout = ours.page.layout;
+            let planes = samples(&file, page, layout.order).unwrap().bytes;
+            assert_eq!(rendered(&layout, &file, &planes).as_ref(), Ok(bytes), "{name}, page {page}: from its samples");
         }
         assert_eq!(picture(&file, pages.len()), Err(Refusal::Invalid), "{name} has a page more than its maker reads");
         names.push(name);
