@@ -183,11 +183,14 @@ fn compare_directory(file: &[u8], page: usize, expected: &Result<Reading, u32>) 
 }
 
 /// All strips at once, into as many numbers as they need, more or fewer.
-fn compare_strips(random: &mut Random, file: &[u8], page: usize, expected: &Result<Reading, u32>) {
+fn compare_strips(random: &mut Random, file: &[u8], page: usize, expected: &Result<Reading, u32>, tally: &mut Tally) {
     let needed = expected.as_ref().map_or(random.below(20), |reading| 2 * reading.strips.len());
     let room = random.around(needed);
     let parts = match expected {
-        Ok(_) if room < needed => Err(plain::OUTPUT_TOO_SMALL),
+        Ok(_) if room < needed => {
+            tally.numbers[plain::OUTPUT_TOO_SMALL as usize] += 1;
+            Err(plain::OUTPUT_TOO_SMALL)
+        }
         Ok(reading) => Ok(reading.strips.iter().flat_map(|&(place, length)| [place, length]).collect()),
         Err(number) => Err(*number),
     };
@@ -245,7 +248,7 @@ fn compare(random: &mut Random, file: &Made, tally: &mut Tally) {
     tally.note(&answer);
     let expected = answer.map_err(|fault| fault.refusal().number());
     compare_directory(bytes, page, &expected);
-    compare_strips(random, bytes, page, &expected);
+    compare_strips(random, bytes, page, &expected, tally);
     if random.below(8) == 0 {
         compare_rust(bytes, page, &expected);
     }
@@ -282,6 +285,7 @@ fn spoiled_files() {
     });
     for (number, count) in tally.numbers.iter().enumerate() {
         println!("answer {number}: {count} times");
+        assert!(*count > 0, "answer {number} was never met");
     }
     for ((tag, what), count) in &tally.kinds {
         println!("{tag:3} {what}: {count} times");

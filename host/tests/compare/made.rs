@@ -86,9 +86,12 @@ fn any(random: &mut Random) -> Picture {
     match random.below(4) {
         0 => picture.w = random.one_of(&sides),
         1 => (picture.h, picture.rows_per_strip) = (random.one_of(&sides[1..]), u64::from(u32::MAX)),
+        // at and beside the most bytes of a picture
         2 => {
-            (picture.w, picture.h, picture.rows_per_strip) = (16_384, 16_384, 16_384);
-            (picture.kind, picture.bits, picture.alpha) = (random.one_of(&[1, 2]), random.one_of(&[8, 16]), None);
+            (picture.w, picture.rows_per_strip) = (16_384, 16_384);
+            picture.h = random.one_of(&[16_384, 16_384, 10_922, 10_923]);
+            (picture.kind, picture.bits, picture.alpha) =
+                random.one_of(&[(1, 16, None), (2, 8, Some(2)), (2, 16, None)]);
         }
         _ => {
             picture.bits = random.one_of(&[1, 4, 8]);
