@@ -2,16 +2,10 @@
 //! decides what is served; this says which directory, tag or strip a refusal is about, and with which number. It calls
 //! nothing of the library, and the tests hold the two against each other.
 
-use crate::limits::{MOST_PICTURE_BYTES, MOST_SIDE};
+use crate::limits::{MOST_ENTRIES, MOST_PAGES, MOST_PICTURE_BYTES, MOST_SIDE};
 use crate::{ByteOrder, Layout, Refusal};
 use std::error::Error;
 use std::fmt;
-
-/// The highest page that is read, the first being 0.
-const MOST_PAGE: usize = 15;
-
-/// The most entries of a directory.
-const MOST_ENTRIES: u64 = 64;
 
 const SHORT: u64 = 3;
 const LONG: u64 = 4;
@@ -123,6 +117,12 @@ pub enum LayoutFault {
 
 /// What the directory of a page says, or the first fault of the file, of the directories up to it, of its tags, its
 /// layout and its strips, in that order: that of [`read_directory`](crate::read_directory).
+///
+/// ```
+/// let fault = hamrisk::explain(b"II*\0\x08\0\0\0\x41\0", 0).unwrap_err();
+/// assert_eq!(fault.refusal(), hamrisk::Refusal::Limit);
+/// assert_eq!(fault.to_string(), "page 0: the directory at byte 8 says 65 entries; at most 64 are read");
+/// ```
 pub fn explain(file: &[u8], page: usize) -> Result<Reading, Fault> {
     let fields = fields(&directory(file, page)?)?;
     let layout = layout(&fields)?;
@@ -193,7 +193,7 @@ impl Values<'_> {
 }
 
 fn source(file: &[u8], page: usize) -> Result<Source<'_>, Fault> {
-    if page > MOST_PAGE {
+    if page >= MOST_PAGES {
         return Err(Fault::PageLimit { page });
     }
     if file.len() < 8 {
@@ -231,7 +231,7 @@ fn directory_at(source: Source<'_>, page: usize, this: usize, at: u64) -> Result
         return Err(Fault::NoCount { page: this, at, length });
     }
     let entries = source.number(at, 2);
-    if entries > MOST_ENTRIES {
+    if entries > MOST_ENTRIES as u64 {
         return Err(Fault::EntryLimit { page: this, at, entries });
     }
     let end = at + 2 + 12 * entries + 4;
@@ -493,7 +493,7 @@ impl Error for Fault {}
 impl fmt::Display for Fault {
     fn fmt(&self, f: &mut fmt::Formatter) -> fmt::Result {
         match *self {
-            Fault::PageLimit { page } => write!(f, "page {page} is above {MOST_PAGE}, the highest that is read"),
+            Fault::PageLimit { page } => write!(f, "page {page} is above {}, the highest that is read", MOST_PAGES - 1),
             Fault::NoHeader { length } => write!(f, "the file's length is {length}; a header has 8 bytes"),
             Fault::NoOrder { found: [a, b] } => write!(f, "the file begins with bytes {a} and {b}, not with II or MM"),
             Fault::NoTiff { found } => write!(f, "the number at byte 2 is {found}, not TIFF's 42"),

@@ -1,5 +1,6 @@
 //! Directories: the library and the host's plain reading on a million spoiled files, refusal by refusal.
 
+use crate::lent::Lent;
 use crate::made::{made, made_with_wide_palette, Made};
 use crate::numbers::{check, seven};
 use crate::random::Random;
@@ -223,7 +224,8 @@ impl Drop for Shown<'_> {
 fn compare(random: &mut Random, file: &Made, tally: &mut Tally) {
     let page = any_page(random, file);
     let _shown = Shown { file, page };
-    let bytes = file.bytes.as_slice();
+    let lent = Lent::of(random, &file.bytes);
+    let bytes = lent.bytes();
     let answer = explain(bytes, page);
     tally.note(&answer);
     let expected = answer.map_err(|fault| fault.refusal().number());
@@ -231,6 +233,7 @@ fn compare(random: &mut Random, file: &Made, tally: &mut Tally) {
     compare_strips(random, bytes, page, &expected);
     let strips = file.pages.get(page).map_or(0, |page| page.strips);
     compare_strip(bytes, page, any_strip(random, strips), tally);
+    lent.assert_kept();
 }
 
 /// As many spoiled files from this seed.

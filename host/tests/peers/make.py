@@ -266,7 +266,7 @@ class Libtiff:
 
 
 def by_tools(folder):
-    """Names, and the words of the tools that make each; `in` names are files with raw samples."""
+    """Names, and the words of the tool that makes each, all but the file that it writes."""
     grey, wide, colour = folder / "grey.raw", folder / "wide.raw", folder / "colour.raw"
     grey.write_bytes(noise((H, W)).tobytes())
     wide.write_bytes(noise((H, W), numpy.uint16).astype("<u2").tobytes())
@@ -274,6 +274,7 @@ def by_tools(folder):
     pbm, ppm = folder / "bits.pbm", folder / "colour.ppm"
     pbm.write_bytes(b"P4 %d %d\n" % (W, H) + numpy.packbits(bits(), axis=1).tobytes())
     ppm.write_bytes(b"P6 %d %d 255\n" % (W, H) + colour.read_bytes())
+    # M: without it raw2tiff writes bytes whose bits run from the low end (FillOrder 2)
     raw = ["raw2tiff", "-M", "-w", W, "-l", H, "-c", "none"]
     copy = ["tiffcp", "-c", "none"]
     first, second, third = folder / "first.tif", folder / "second.tif", folder / "third.tif"
