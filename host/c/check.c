@@ -160,8 +160,10 @@ static void put(uint8_t *at, size_t size, uint32_t value) {
 
 /* Grey of 16 bits, two columns and two rows, most significant byte first, predicted, a strip for each row. */
 static void make_file(uint8_t *file) {
-    static const uint32_t tags[9][4] = {{256, 3, 1, 2}, {257, 3, 1, 2},      {258, 3, 1, 16}, {262, 3, 1, 1}, {273, 4, 2, VALUES},
-                                        {277, 3, 1, 1}, {278, 3, 1, 1},      {279, 4, 2, VALUES + 8}, {317, 3, 1, 2}};
+    static const uint32_t tags[9][4] = {
+        {256, 3, 1, 2}, {257, 3, 1, 2}, {258, 3, 1, 16}, {262, 3, 1, 1}, {273, 4, 2, VALUES},
+        {277, 3, 1, 1}, {278, 3, 1, 1}, {279, 4, 2, VALUES + 8}, {317, 3, 1, 2},
+    };
     static const uint8_t header[8] = {'M', 'M', 0, 42, 0, 0, 0, DIRECTORY};
     static const uint8_t strips[8] = {0x01, 0x02, 0x00, 0x01, 0x03, 0x04, 0xFF, 0xFF};
 
