@@ -198,14 +198,14 @@ typedef struct hamrisk_page {
  *       284 planes                 SHORT          1         1        1 together; 2 a plane for each sample
  *       317 predictor              SHORT          1         1        1; 2 if bits are 8 or 16
  *       320 palette                SHORT          not 0     none     all; looked at with a palette alone
- *       338 extra sample           SHORT          1         none     1 alpha, the others multiplied by it; 2 alpha, they are not
- *     For each: missing without a default, 338 excepted: 2; another type: 2; another count: 2; values not in the file: 3; a value
- *     that is not served: 1, but 278 of 0: 2; then, with lower tags:
+ *       338 extra sample           SHORT          1         nothing  1 alpha, the others multiplied by it; 2 alpha, they are not
+ *     For each: missing without a default (else it counts as there, with that value): 2; another type: 2; another count: 2; values
+ *     not in the file: 3; a value that is not served: 1, but 278 of 0: 2; then, with lower tags:
  *       277 not the count of 258, or neither the samples that 262 has (3 if 262 is 2, else 1) nor one more: 2;
  *       279's count not that of 273: 2;
  *       at 284, 273's count not the number of strips, rows / rows of a strip, rounded up, times 277 if 284 is 2: 2;
  *       320's count not 3 * 2^bits: 2;
- *       at 338, missing or not, 277 not the samples that 262 has, plus one if 338 is there: 2.
+ *       at 338, also where it is missing, 277 not the samples that 262 has, plus one if 338 is there: 2.
  *  4. As hamrisk_check_layout of: w 256; h 257; ch 3 with a palette, else 277; bytes 2 if bits are 16, else 1; slots 8 if bits
  *     are 1, 2 if they are 4, else 1; palette; separate if 284 is 2; le if "II"; white if 262 is 0; alpha 338, or 0; map where the
  *     values of 320 stand, or 0.

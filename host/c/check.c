@@ -160,8 +160,10 @@ static void put(uint8_t *at, size_t size, uint32_t value) {
 
 /* Grey of 16 bits, two columns and two rows, most significant byte first, predicted, a strip for each row. */
 static void make_file(uint8_t *file) {
-    static const uint32_t tags[9][4] = {{256, 3, 1, 2}, {257, 3, 1, 2},      {258, 3, 1, 16}, {262, 3, 1, 1}, {273, 4, 2, VALUES},
-                                        {277, 3, 1, 1}, {278, 3, 1, 1},      {279, 4, 2, VALUES + 8}, {317, 3, 1, 2}};
+    static const uint32_t tags[9][4] = {
+        {256, 3, 1, 2}, {257, 3, 1, 2}, {258, 3, 1, 16}, {262, 3, 1, 1}, {273, 4, 2, VALUES},
+        {277, 3, 1, 1}, {278, 3, 1, 1}, {279, 4, 2, VALUES + 8}, {317, 3, 1, 2},
+    };
     static const uint8_t header[8] = {'M', 'M', 0, 42, 0, 0, 0, DIRECTORY};
     static const uint8_t strips[8] = {0x01, 0x02, 0x00, 0x01, 0x03, 0x04, 0xFF, 0xFF};
 
@@ -182,28 +184,28 @@ static void make_file(uint8_t *file) {
     memcpy(file + FIRST, strips, 8);
 }
 
-static void pages(void) {
-    const uint8_t picture[8] = {0x01, 0x02, 0x01, 0x03, 0x03, 0x04, 0x03, 0x03};
+static void pages(const uint8_t *file, hamrisk_page *found) {
+    hamrisk_page before;
+
+    memset(found, CANARY, sizeof *found);
+    before = *found;
+    check("20 numbers of a page", sizeof *found == 20 * sizeof(size_t));
+    check("a page that is not there", hamrisk_directory(file, FILE_LEN, 1, found) == HAMRISK_INVALID
+                                          && memcmp(found, &before, sizeof before) == 0);
+    check("page 16",
+          hamrisk_directory(file, FILE_LEN, 16, found) == HAMRISK_LIMIT && memcmp(found, &before, sizeof before) == 0);
+    check("a file that lost its end", hamrisk_directory(file, FILE_LEN - 1, 0, found) == HAMRISK_TRUNCATED
+                                          && memcmp(found, &before, sizeof before) == 0);
+    check("a page", hamrisk_directory(file, FILE_LEN, 0, found) == HAMRISK_DONE && found->layout.w == 2 && found->layout.h == 2
+                        && found->layout.ch == 1 && found->layout.bytes == 2 && found->layout.slots == 1
+                        && found->layout.le == 0 && found->derived[0] == 2 && found->derived[1] == 2 && found->derived[4] == 8
+                        && found->derived[5] == 8 && found->predictor == 2 && found->strips == 2);
+}
+
+static void strips(const uint8_t *file) {
     const size_t places[4] = {FIRST, 4, FIRST + 4, 4};
-    uint8_t file[FILE_LEN], planes[ROOM], out[ROOM];
-    hamrisk_page found, before;
     size_t parts[4] = {77, 77, 77, 77};
     size_t place = 77, length = 77;
-
-    make_file(file);
-    memset(&found, CANARY, sizeof found);
-    before = found;
-    check("20 numbers of a page", sizeof found == 20 * sizeof(size_t));
-    check("a page that is not there", hamrisk_directory(file, FILE_LEN, 1, &found) == HAMRISK_INVALID
-                                          && memcmp(&found, &before, sizeof found) == 0);
-    check("page 16", hamrisk_directory(file, FILE_LEN, 16, &found) == HAMRISK_LIMIT
-                         && memcmp(&found, &before, sizeof found) == 0);
-    check("a file that lost its end", hamrisk_directory(file, FILE_LEN - 1, 0, &found) == HAMRISK_TRUNCATED
-                                          && memcmp(&found, &before, sizeof found) == 0);
-    check("a page", hamrisk_directory(file, FILE_LEN, 0, &found) == HAMRISK_DONE && found.layout.w == 2 && found.layout.h == 2
-                        && found.layout.ch == 1 && found.layout.bytes == 2 && found.layout.slots == 1 && found.layout.le == 0
-                        && found.derived[0] == 2 && found.derived[1] == 2 && found.derived[4] == 8 && found.derived[5] == 8
-                        && found.predictor == 2 && found.strips == 2);
 
     check("a strip past the end", hamrisk_strip(file, FILE_LEN - 1, 0, 1, &place, &length) == HAMRISK_TRUNCATED && place == 77
                                       && length == 77);
@@ -215,16 +217,25 @@ static void pages(void) {
                                && parts[2] == 77);
     check("all strips",
           hamrisk_strips(file, FILE_LEN, 0, parts, 4) == HAMRISK_DONE && memcmp(parts, places, sizeof parts) == 0);
+}
 
+static void files(void) {
+    const uint8_t picture[8] = {0x01, 0x02, 0x01, 0x03, 0x03, 0x04, 0x03, 0x03};
+    uint8_t file[FILE_LEN], planes[ROOM], out[ROOM];
+    hamrisk_page found;
+
+    make_file(file);
+    pages(file, &found);
+    strips(file);
     clear(planes);
     clear(out);
-    check("their samples", hamrisk_convert(file + parts[0], found.derived[4], found.derived[0] * found.derived[1],
-                                           found.derived[1] / found.layout.bytes, found.layout.bytes, found.layout.le,
-                                           found.predictor == 2, found.layout.le, planes, ROOM)
-                                   == HAMRISK_DONE
-                               && holds(planes, picture, 8));
-    check("their picture", hamrisk_render(&found.layout, file, FILE_LEN, planes, 8, out, ROOM) == HAMRISK_DONE
-                               && holds(out, picture, 8));
+    check("its samples", hamrisk_convert(file + FIRST, found.derived[4], found.derived[0] * found.derived[1],
+                                         found.derived[1] / found.layout.bytes, found.layout.bytes, found.layout.le,
+                                         found.predictor == 2, found.layout.le, planes, ROOM)
+                                 == HAMRISK_DONE
+                             && holds(planes, picture, 8));
+    check("its picture", hamrisk_render(&found.layout, file, FILE_LEN, planes, 8, out, ROOM) == HAMRISK_DONE
+                             && holds(out, picture, 8));
 }
 
 int main(void) {
@@ -232,7 +243,7 @@ int main(void) {
     bytes();
     damage();
     pictures();
-    pages();
+    files();
     printf("%d checks, %d differ\n", checks, differ);
     return differ == 0 ? 0 : 1;
 }

@@ -424,8 +424,8 @@ pub fn write_planes(layout: &Layout, picture: &[u8], planes: &mut [u8]) -> Resul
 /// 5. For each strip, by number: a byte count that is not its rows × the bytes of a row is Invalid; an end past the
 ///    file's is Truncated.
 ///
-/// Served are uncompressed strips of 1, 4 (with a palette), 8 or 16 bits; grey, three colours or a palette; with one
-/// alpha or none; together or a plane for each sample; predicted (from 8 bits up) or not.
+/// Served are strips that are not compressed: grey or three colours of 8 or 16 bits, with 8 bits one alpha beside them;
+/// bilevel; palettes of 1, 4 or 8 bits; planes together or apart; predicted, from 8 bits up, or not.
 ///
 /// ```
 /// use hamrisk::{read_directory, Refusal};

@@ -5,8 +5,8 @@
 //! promise on every input: it ends, stays within its slices, and refuses in a fixed order. A refusal writes nothing. A
 //! call that is done writes the stated bytes at the front of its output and leaves the bytes past them as they were.
 //! The numbers that are served stand in [`limits`]. Nothing is allocated, but for the calls that answer a `Vec`:
-//! [`converted`], [`forwarded`], [`marked`], [`rendered`], [`written`] and [`placed`], and [`picture`] and [`samples`], which
-//! need no more than a file:
+//! [`converted`], [`forwarded`], [`marked`], [`rendered`], [`written`] and [`placed`]; [`explain`], which says what the
+//! refusal of a file is about; and [`picture`] and [`samples`], which need no more than a file:
 //!
 //! ```no_run
 //! let shelf = hamrisk::picture(&std::fs::read("shelf.tif")?, 0)?;

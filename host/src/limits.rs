@@ -1,4 +1,4 @@
-//! The numbers that the calls serve, as docs/RULES.md has them. The library's own checks decide;
+//! The numbers that the calls serve, as docs/RULES.md has them (10, and 5 for layouts). The library's own checks decide;
 //! `tests/limits.rs` holds each number here to them.
 
 use std::fmt;

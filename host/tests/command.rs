@@ -371,7 +371,13 @@ fn wrong_command_lines_end_with_64() {
 fn files_that_cannot_be_read_or_written_end_with_74() {
     let folder = Folder::new("files");
     folder.put("in", &[1]);
-    for (line, named) in [("reverse none out", "none"), ("reverse in none/out", "none/out"), ("reverse in .", ".")] {
+    for (line, named) in [
+        ("reverse none out", "none"),
+        ("reverse in none/out", "none/out"),
+        ("reverse in .", "."),
+        ("info none", "none"),
+        ("picture . out", "."),
+    ] {
         let (status, _, error) = folder.run(line);
         assert_eq!(status, 74, "{line}: {error}");
         assert!(error.starts_with(&format!("hamrisk: {named}: ")), "{line}: {error}");
@@ -698,6 +704,7 @@ fn picture_by_the_name_of_out() {
     for (line, words) in [
         ("picture grey a.ppm", "a .ppm has colours, and this picture is grey: call OUT .pgm or .pnm"),
         ("picture colours a.pgm", "a .pgm is grey, and this picture has colours: call OUT .ppm or .pnm"),
+        ("picture colours a.png", "such a file is not written: call OUT .pgm, .ppm, .pnm or .pam to look at it"),
     ] {
         let said = format!("hamrisk: picture: {words}; see hamrisk picture --help\n");
         assert_eq!(folder.run(line), (64, String::new(), said));

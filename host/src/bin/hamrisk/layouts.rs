@@ -9,12 +9,12 @@ use std::path::Path;
 
 pub fn render(args: &Args) -> Result<(), Failure> {
     let layout = layout(args)?;
+    let form = Form::asked(args.file(1), args.has("pnm"), &layout).map_err(|what| args.wrong(what.into()))?;
     let file = palette_file(args, &layout)?;
     let raw = files::read(args.file(0))?;
     let picture = rendered(&layout, &file, &raw)
         .map_err(|refusal| Failure::refused("render", refusal, faults::of_render(&layout, file.len(), raw.len())))?;
-    let form = Form::asked(args.file(1), args.has("pnm"));
-    let (header, bytes) = form.of_rendered(&layout, picture).map_err(|what| args.wrong(what.into()))?;
+    let (header, bytes) = form.of_rendered(&layout, picture);
     files::write(args.file(1), &[header.as_bytes(), &bytes])
 }
 

@@ -79,10 +79,10 @@ pub fn info(args: &Args) -> Result<(), Failure> {
 pub fn picture(args: &Args) -> Result<(), Failure> {
     let asked = Asked::new(args, "picture")?;
     let page = asked.found()?;
+    let form = Form::asked(args.file(1), args.has("pnm"), &page.layout).map_err(|what| args.wrong(what.into()))?;
     let needed = page.derived.scratch_length + page.derived.output_length;
     let picture = hamrisk::picture(&asked.file, asked.page).map_err(|refusal| asked.too_large(refusal, needed))?;
-    let form = Form::asked(args.file(1), args.has("pnm"));
-    let (header, bytes) = form.of_rendered(&page.layout, picture.bytes).map_err(|what| args.wrong(what.into()))?;
+    let (header, bytes) = form.of_rendered(&page.layout, picture.bytes);
     files::write(args.file(1), &[header.as_bytes(), &bytes])
 }
 

@@ -10,40 +10,34 @@ pub enum Form {
     Bytes,
     /// A PGM if it is grey, a PPM if it has three colours; alpha is left out.
     Pnm,
-    /// A PGM, which a picture of three colours cannot be.
-    Pgm,
-    /// A PPM, which a grey picture cannot be.
-    Ppm,
     /// A PAM, which has room for alpha.
     Pam,
 }
 
 impl Form {
-    /// What is asked for by the name of a file, or by `--pnm`.
-    pub fn asked(out: &Path, pnm: bool) -> Form {
+    /// What is asked for by `--pnm` or by the name of a file, or why a picture of this layout is not written as that.
+    pub fn asked(out: &Path, pnm: bool, layout: &Layout) -> Result<Form, &'static str> {
         let ending = out.extension().map(|ending| ending.to_string_lossy().to_lowercase());
-        match ending.as_deref() {
-            _ if pnm => Form::Pnm,
-            Some("pnm") => Form::Pnm,
-            Some("pgm") => Form::Pgm,
-            Some("ppm") => Form::Ppm,
-            Some("pam") => Form::Pam,
-            _ => Form::Bytes,
+        match (ending.as_deref(), has_colours(layout)) {
+            _ if pnm => Ok(Form::Pnm),
+            (Some("pnm"), _) | (Some("pgm"), false) | (Some("ppm"), true) => Ok(Form::Pnm),
+            (Some("pgm"), true) => Err("a .pgm is grey, and this picture has colours: call OUT .ppm or .pnm"),
+            (Some("ppm"), false) => Err("a .ppm has colours, and this picture is grey: call OUT .pgm or .pnm"),
+            (Some("pam"), _) => Ok(Form::Pam),
+            // Bytes alone under such a name would be taken for a damaged file.
+            (Some("bmp" | "gif" | "jpeg" | "jpg" | "pbm" | "png" | "tif" | "tiff" | "webp"), _) => {
+                Err("such a file is not written: call OUT .pgm, .ppm, .pnm or .pam to look at it")
+            }
+            _ => Ok(Form::Bytes),
         }
     }
 
-    /// The header of a rendered picture and its bytes, or what is wrong with the form.
-    pub fn of_rendered(self, layout: &Layout, picture: Vec<u8>) -> Result<(String, Vec<u8>), &'static str> {
+    /// The header of a rendered picture, and its bytes.
+    pub fn of_rendered(self, layout: &Layout, picture: Vec<u8>) -> (String, Vec<u8>) {
         match self {
-            Form::Bytes => Ok((String::new(), picture)),
-            Form::Pgm if has_colours(layout) => {
-                Err("a .pgm is grey, and this picture has colours: call OUT .ppm or .pnm")
-            }
-            Form::Ppm if !has_colours(layout) => {
-                Err("a .ppm has colours, and this picture is grey: call OUT .pgm or .pnm")
-            }
-            Form::Pnm | Form::Pgm | Form::Ppm => Ok(without_alpha(layout, picture)),
-            Form::Pam => Ok((pam_header(layout), picture)),
+            Form::Bytes => (String::new(), picture),
+            Form::Pnm => without_alpha(layout, picture),
+            Form::Pam => (pam_header(layout), picture),
         }
     }
 }
