@@ -45,5 +45,5 @@ pub use ffi::{
 };
 pub use owned::{converted, forwarded, marked, rendered, written};
 pub use pages::{picture, placed, samples, Picture, Samples};
-pub use reading::{explain, explain_layout, explain_strip, Fault, LayoutFault, Reading, TagFault};
+pub use reading::{explain, explain_layout, explain_strip, Fault, LayoutFault, Reading, StripFault, TagFault};
 pub use types::{ByteAt, ByteOrder, Coding, Derived, Layout, Page, Refusal, SampleAt, Strip};

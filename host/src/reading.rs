@@ -53,12 +53,8 @@ pub enum Fault {
     Tag { tag: u64, fault: TagFault },
     /// A layout that is refused, and the tag that tells why.
     Layout { tag: u64, fault: LayoutFault },
-    /// A strip that is not there.
-    NoStrip { strip: usize, strips: u64 },
-    /// A strip whose byte count is not that of its rows.
-    StripLength { strip: usize, length: u64, rows: u64, row_bytes: u64 },
-    /// A strip that ends past the file.
-    StripEnd { strip: usize, place: u64, length: u64, file: u64 },
+    /// A strip, and what is wrong with it.
+    Strip { strip: usize, fault: StripFault },
 }
 
 /// What is wrong with a tag's entry or its values.
@@ -115,6 +111,18 @@ pub enum LayoutFault {
     Size { w: u64, h: u64, ch: u64, bytes: u64 },
 }
 
+/// What is wrong with a strip.
+#[derive(Clone, Copy, Debug, PartialEq, Eq)]
+#[allow(missing_docs)]
+pub enum StripFault {
+    /// It is not there.
+    Missing { strips: u64 },
+    /// Its byte count is not that of its rows.
+    Length { length: u64, rows: u64, row_bytes: u64 },
+    /// It ends past the file.
+    End { place: u64, length: u64, file: u64 },
+}
+
 /// What the directory of a page says, or the first fault of the file, of the directories up to it, of its tags, its
 /// layout and its strips, in that order: that of [`read_directory`](crate::read_directory).
 ///
@@ -136,7 +144,7 @@ pub fn explain_strip(file: &[u8], page: usize, k: usize) -> Result<(usize, usize
     let fields = fields(&directory(file, page)?)?;
     layout(&fields)?;
     if k as u64 >= fields.places.count {
-        return Err(Fault::NoStrip { strip: k, strips: fields.places.count });
+        return Err(Fault::Strip { strip: k, fault: StripFault::Missing { strips: fields.places.count } });
     }
     strip(&fields, k)
 }
@@ -454,12 +462,13 @@ fn strip(fields: &Fields, k: usize) -> Result<(usize, usize), Fault> {
     let in_plane = k as u64 % h.div_ceil(rows_per_strip);
     let rows = rows_per_strip.min(h - in_plane * rows_per_strip);
     let (place, length) = (fields.places.get(k as u64), fields.lengths.get(k as u64));
+    let wrong = |fault| Err(Fault::Strip { strip: k, fault });
     if length != rows * row_bytes {
-        return Err(Fault::StripLength { strip: k, length, rows, row_bytes });
+        return wrong(StripFault::Length { length, rows, row_bytes });
     }
     let file = fields.places.source.length();
     if place + length > file {
-        return Err(Fault::StripEnd { strip: k, place, length, file });
+        return wrong(StripFault::End { place, length, file });
     }
     Ok((place as usize, length as usize))
 }
@@ -472,7 +481,7 @@ impl Fault {
             Fault::NoHeader { .. }
             | Fault::NoCount { .. }
             | Fault::DirectoryEnd { .. }
-            | Fault::StripEnd { .. }
+            | Fault::Strip { fault: StripFault::End { .. }, .. }
             | Fault::Tag { fault: TagFault::Room { .. }, .. } => Refusal::Truncated,
             Fault::Tag { fault: TagFault::Value { .. }, .. } => Refusal::Unsupported,
             Fault::Layout { fault: LayoutFault::Side { .. } | LayoutFault::Size { .. }, .. } => Refusal::Limit,
@@ -482,8 +491,7 @@ impl Fault {
             | Fault::TagOrder { .. }
             | Fault::Tag { .. }
             | Fault::Layout { .. }
-            | Fault::NoStrip { .. }
-            | Fault::StripLength { .. } => Refusal::Invalid,
+            | Fault::Strip { .. } => Refusal::Invalid,
         }
     }
 }
@@ -520,21 +528,24 @@ impl fmt::Display for Fault {
                 fault.tell(tag, f)
             }
             Fault::Layout { tag, fault } => write!(f, "{}: {fault}", Named(tag)),
-            Fault::NoStrip { strip, strips: 1 } => write!(f, "strip {strip} is not there: the page has 1 strip"),
-            Fault::NoStrip { strip, strips } => write!(f, "strip {strip} is not there: the page has {strips} strips"),
-            Fault::StripLength { strip, length, rows, row_bytes } => {
+            Fault::Strip { strip, fault: fault @ StripFault::Missing { .. } } => write!(f, "strip {strip} {fault}"),
+            Fault::Strip { strip, fault } => write!(f, "strip {strip}: {fault}"),
+        }
+    }
+}
+
+impl fmt::Display for StripFault {
+    fn fmt(&self, f: &mut fmt::Formatter) -> fmt::Result {
+        match *self {
+            StripFault::Missing { strips: 1 } => write!(f, "is not there: the page has 1 strip"),
+            StripFault::Missing { strips } => write!(f, "is not there: the page has {strips} strips"),
+            StripFault::Length { length, rows, row_bytes } => {
                 let needed = rows * row_bytes;
-                write!(
-                    f,
-                    "strip {strip}: its byte count is {length}, not rows {rows} × row bytes {row_bytes} ({needed})"
-                )
+                write!(f, "its byte count is {length}, not rows {rows} × row bytes {row_bytes} ({needed})")
             }
-            Fault::StripEnd { strip, place, length, file } => {
+            StripFault::End { place, length, file } => {
                 let end = place + length;
-                write!(
-                    f,
-                    "strip {strip}: at byte {place} with {length} bytes it ends at byte {end}, the file at byte {file}"
-                )
+                write!(f, "at byte {place} with {length} bytes it ends at byte {end}, the file at byte {file}")
             }
         }
     }

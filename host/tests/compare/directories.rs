@@ -7,7 +7,8 @@ use crate::random::Random;
 use crate::spoiled::spoiled;
 use crate::{plain, told};
 use hamrisk::{
-    explain, explain_strip, placed, read_directory, strip, ByteOrder, Fault, Layout, LayoutFault, Reading, TagFault,
+    explain, explain_strip, placed, read_directory, strip, ByteOrder, Fault, Layout, LayoutFault, Reading, StripFault,
+    TagFault,
 };
 use std::collections::BTreeMap;
 use std::thread;
@@ -64,9 +65,9 @@ fn kind(fault: &Fault) -> Kind {
         Fault::EntryLimit { .. } => (0, "entries above the limit"),
         Fault::DirectoryEnd { .. } => (0, "directory past the end"),
         Fault::TagOrder { .. } => (0, "tags not ascending"),
-        Fault::NoStrip { .. } => (0, "no such strip"),
-        Fault::StripLength { .. } => (0, "strip's length"),
-        Fault::StripEnd { .. } => (0, "strip past the end"),
+        Fault::Strip { fault: StripFault::Missing { .. }, .. } => (0, "no such strip"),
+        Fault::Strip { fault: StripFault::Length { .. }, .. } => (0, "strip's length"),
+        Fault::Strip { fault: StripFault::End { .. }, .. } => (0, "strip past the end"),
         Fault::Tag { tag, fault } => (*tag, kind_of_tag(fault)),
         Fault::Layout { tag, fault } => (*tag, kind_of_layout(fault)),
     }
