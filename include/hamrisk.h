@@ -9,8 +9,10 @@
  * What the proof cannot see, and the caller owes:
  * - A pointer is not null, even with length 0, and stands for as many bytes as its length says: readable and initialised for
  *   the whole call, an output's too, and writable where it is not const.
- * - `value`, `count` and `place` point to one number, `derived` to seven and `layout` to a hamrisk_layout, aligned as their type.
- * - What a call writes overlaps nothing else that it is handed: `out`, `marks` and `planes` no input, and a lent number no buffer.
+ * - `value`, `count`, `place` and `length` point to one number, `derived` to seven, `parts` to parts_len, `layout` to a
+ *   hamrisk_layout and `found` to a hamrisk_page, aligned as their type.
+ * - What a call writes overlaps nothing else that it is handed: `out`, `marks`, `planes`, `parts` and `found` no input, and a lent
+ *   number no buffer and no other one.
  * - While the call runs nobody else writes what it reads, or touches what it writes.
  * - A bool is 0 or 1.
  */
@@ -31,7 +33,7 @@ enum {
     HAMRISK_INVALID = 2,          /* numbers that contradict each other, or forbidden content */
     HAMRISK_TRUNCATED = 3,        /* an input too short */
     HAMRISK_OUTPUT_TOO_SMALL = 4, /* an output buffer too short */
-    HAMRISK_LIMIT = 5             /* a size above the limits of hamrisk_check_layout */
+    HAMRISK_LIMIT = 5             /* a size above the limits of hamrisk_check_layout or hamrisk_directory */
 };
 
 /*
@@ -158,6 +160,75 @@ uint32_t hamrisk_render(const hamrisk_layout *layout, const uint8_t *file, size_
  */
 uint32_t hamrisk_write_planes(const hamrisk_layout *layout, const uint8_t *picture, size_t picture_len, uint8_t *planes,
                               size_t planes_len);
+
+/*
+ * A page of a TIFF file. Its strips end to end are planes that hamrisk_render takes with this layout and this file; predicted
+ * ones go through hamrisk_convert first, strip by strip or all at once: rows of derived[0] * derived[1] bytes, channels
+ * derived[1] / layout.bytes, width layout.bytes.
+ */
+typedef struct hamrisk_page {
+    hamrisk_layout layout;
+    size_t derived[7]; /* what follows from the layout, as hamrisk_check_layout gives it */
+    size_t predictor;  /* 1: samples are stored as they are; 2: predicted */
+    size_t strips;     /* how many strips it has */
+} hamrisk_page;
+
+/*
+ * Page `page` of the TIFF file, the first being 0. `file` is the whole file; places in it are counted from its first byte.
+ * Refuses, the first fault in this order:
+ *  1. The file. page above 15: 5; file_len below 8: 3; bytes 0 and 1 not "II" (least significant byte first from here on) or "MM"
+ *     (most significant first), or the two-byte word at byte 2 not 42: 2.
+ *  2. Each directory on the way, that of the page too. It stands where a four-byte word says, that at byte 4 or that at the end
+ *     of the directory before: a two-byte count, so many entries of twelve bytes, a four-byte word. An entry is a two-byte tag, a
+ *     two-byte type (3 SHORT, of two bytes; 4 LONG, of four), a four-byte count and four bytes: the values from the front, if all
+ *     take four bytes or fewer, else the place of the values.
+ *     A place of 0, a page that is not there: 2; the count not in the file: 3; a count above 64: 5; the entries or the word after
+ *     them not in the file: 3; tags not strictly ascending: 2.
+ *  3. Each of these tags of the page, in this order; others are not looked at.
+ *       tag                        type           count     default  served values
+ *       256 columns                SHORT or LONG  1         none     all
+ *       257 rows                   SHORT or LONG  1         none     all
+ *       258 bits of each sample    SHORT          not 0     one, 1   all the same: 1, 4, 8 or 16
+ *       259 compression            SHORT          1         1        1, none
+ *       262 colours                SHORT          1         none     0 grey, 0 is white; 1 grey, 0 is black; 2 three; 3 palette
+ *       273 places of strips       SHORT or LONG  not 0     none     all
+ *       277 samples of a pixel     SHORT          1         1        all
+ *       278 rows of a strip        SHORT or LONG  1         2^32-1   all but 0
+ *       279 bytes of each strip    SHORT or LONG  not 0     none     all
+ *       284 planes                 SHORT          1         1        1 together; 2 a plane for each sample
+ *       317 predictor              SHORT          1         1        1; 2 if bits are 8 or 16
+ *       320 palette                SHORT          not 0     none     all; looked at with a palette alone
+ *       338 extra sample           SHORT          1         nothing  1 alpha, the others multiplied by it; 2 alpha, they are not
+ *     For each: missing without a default (else it counts as there, with that value): 2; another type: 2; another count: 2; values
+ *     not in the file: 3; a value that is not served: 1, but 278 of 0: 2; then, with lower tags:
+ *       277 not the count of 258, or neither the samples that 262 has (3 if 262 is 2, else 1) nor one more: 2;
+ *       279's count not that of 273: 2;
+ *       at 284, 273's count not the number of strips, rows / rows of a strip, rounded up, times 277 if 284 is 2: 2;
+ *       320's count not 3 * 2^bits: 2;
+ *       at 338, also where it is missing, 277 not the samples that 262 has, plus one if 338 is there: 2.
+ *  4. As hamrisk_check_layout of: w 256; h 257; ch 3 with a palette, else 277; bytes 2 if bits are 16, else 1; slots 8 if bits
+ *     are 1, 2 if they are 4, else 1; palette; separate if 284 is 2; le if "II"; white if 262 is 0; alpha 338, or 0; map where the
+ *     values of 320 stand, or 0.
+ *  5. Each strip, by its number. Its bytes not its rows (278, or what is left for the last of a plane) * the bytes of a row: 2;
+ *     place + bytes past file_len: 3.
+ * Writes: *found, whose strips are all in the file, their lengths together the scratch length.
+ */
+uint32_t hamrisk_directory(const uint8_t *file, size_t file_len, size_t page, hamrisk_page *found);
+
+/*
+ * Where strip k of a page stands. With planes apart the strips of the first plane come first, then those of the next.
+ * Refuses: 1 to 4 of hamrisk_directory; k not below the number of strips: 2; 5 of hamrisk_directory, of this strip alone.
+ *          So the sound strips of a file that lost its end are still found.
+ * Writes: *place, the strip's first byte in file; *length, its bytes.
+ */
+uint32_t hamrisk_strip(const uint8_t *file, size_t file_len, size_t page, size_t k, size_t *place, size_t *length);
+
+/*
+ * Where all strips of a page stand, in one call.
+ * Refuses: as hamrisk_directory; parts_len below 2 * strips: 4.
+ * Writes: 2 * strips numbers of parts: parts[2 * k] the first byte of strip k, parts[2 * k + 1] its bytes.
+ */
+uint32_t hamrisk_strips(const uint8_t *file, size_t file_len, size_t page, size_t *parts, size_t parts_len);
 
 #ifdef __cplusplus
 }

@@ -34,6 +34,10 @@ pub struct Libtiff {
     set: unsafe extern "C" fn(Handle, u32, ...) -> c_int,
     write: unsafe extern "C" fn(Handle, u32, *const u8, isize) -> isize,
     read: unsafe extern "C" fn(Handle, u32, *mut u8, isize) -> isize,
+    next_page: unsafe extern "C" fn(Handle) -> c_int,
+    strips: unsafe extern "C" fn(Handle) -> u32,
+    place: unsafe extern "C" fn(Handle, u32) -> u64,
+    length: unsafe extern "C" fn(Handle, u32) -> u64,
 }
 
 /// A file in memory.
@@ -80,8 +84,10 @@ unsafe extern "C" fn close(_: Handle) -> c_int {
     0
 }
 
-unsafe extern "C" fn map(_: Handle, _: *mut *mut c_void, _: *mut u64) -> c_int {
-    0
+unsafe extern "C" fn map(m: Handle, to: *mut *mut c_void, n: *mut u64) -> c_int {
+    let m = &mut *(m as *mut Memory);
+    (*to, *n) = (m.bytes.as_mut_ptr() as *mut c_void, m.bytes.len() as u64);
+    1
 }
 
 unsafe extern "C" fn unmap(_: Handle, _: *mut c_void, _: u64) {}
@@ -127,6 +133,10 @@ impl Libtiff {
                 set: function(library, c"TIFFSetField")?,
                 write: function(library, c"TIFFWriteEncodedStrip")?,
                 read: function(library, c"TIFFReadEncodedStrip")?,
+                next_page: function(library, c"TIFFReadDirectory")?,
+                strips: function(library, c"TIFFNumberOfStrips")?,
+                place: function(library, c"TIFFGetStrileOffset")?,
+                length: function(library, c"TIFFGetStrileByteCount")?,
             })
         }
     }
@@ -183,11 +193,33 @@ impl Libtiff {
     pub fn reader(&self, p: Picture) -> impl FnMut() + '_ {
         let mut memory = Box::new(self.written(p));
         let mut out = vec![0u8; 1024 * p.channels * p.width * p.rows];
-        let tiff = unsafe { self.opened(&mut memory, "r") };
+        // m: not by the file's bytes where they stand, but through libtiff's own buffer, as from a disk
+        let tiff = unsafe { self.opened(&mut memory, "rm") };
         move || {
             let keep = &memory;
             let n = unsafe { (self.read)(tiff, 0, out.as_mut_ptr(), out.len() as isize) };
             assert!(n == out.len() as isize && !keep.bytes.is_empty());
+        }
+    }
+
+    /// A file opened where it stands, and the place and length of every strip of every page: what one call does.
+    pub fn places(&self, file: &[u8]) -> impl FnMut() -> Vec<(usize, usize)> + '_ {
+        let mut memory = Box::new(Memory { bytes: file.to_vec(), at: 0 });
+        move || unsafe {
+            memory.at = 0;
+            // c: the file's own strips, a large one not in parts
+            let tiff = self.opened(&mut memory, "rc");
+            assert!(!tiff.is_null(), "libtiff opens the file");
+            let mut places = vec![];
+            loop {
+                let strips = 0..(self.strips)(tiff);
+                places.extend(strips.map(|k| ((self.place)(tiff, k) as usize, (self.length)(tiff, k) as usize)));
+                if (self.next_page)(tiff) == 0 {
+                    break;
+                }
+            }
+            (self.close)(tiff);
+            places
         }
     }
 }

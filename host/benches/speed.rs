@@ -1,6 +1,7 @@
 //! Each call beside hand-written Rust, libtiff where it has the same operation, and memcpy, as ratios of their speeds:
 //! `cargo bench` prints the tables of docs/SPEED.md; `cargo bench -- render 65536` those of one call and size.
 mod by_hand;
+mod directories;
 mod libtiff;
 
 use hamrisk::limits::MOST_SIDE;
@@ -361,4 +362,7 @@ fn main() {
     run.print();
     least(&run);
     predicted(&run);
+    if run.has("read_directory, strip_places, strip_place") {
+        directories::print(run.libtiff.as_ref());
+    }
 }

@@ -1,6 +1,6 @@
 /*
- * The cases A, C, D, E, F, I, J and L of docs/RULES.md, and some refusals, through include/hamrisk.h. Prints a line for each
- * check that differs and one of counts; ends with 1 if any differs.
+ * The cases A, C, D, E, F, I, J and L of docs/RULES.md, a small TIFF file, and some refusals, through include/hamrisk.h. Prints a
+ * line for each check that differs and one of counts; ends with 1 if any differs.
  */
 #include "hamrisk.h"
 
@@ -148,11 +148,102 @@ static void pictures(void) {
     check("its second byte", hamrisk_index(&apart, 1, &place) == HAMRISK_DONE && place == 2);
 }
 
+/* Bytes of the file that `make_file` writes: header, a directory of nine entries, values of two tags, two strips. */
+enum { DIRECTORY = 8, VALUES = DIRECTORY + 2 + 9 * 12 + 4, FIRST = VALUES + 16, FILE_LEN = FIRST + 8 };
+
+static void put(uint8_t *at, size_t size, uint32_t value) {
+    for (size_t k = size; k > 0; k -= 1) {
+        at[k - 1] = (uint8_t)value;
+        value >>= 8;
+    }
+}
+
+/* Grey of 16 bits, two columns and two rows, most significant byte first, predicted, a strip for each row. */
+static void make_file(uint8_t *file) {
+    static const uint32_t tags[9][4] = {
+        {256, 3, 1, 2}, {257, 3, 1, 2}, {258, 3, 1, 16}, {262, 3, 1, 1}, {273, 4, 2, VALUES},
+        {277, 3, 1, 1}, {278, 3, 1, 1}, {279, 4, 2, VALUES + 8}, {317, 3, 1, 2},
+    };
+    static const uint8_t header[8] = {'M', 'M', 0, 42, 0, 0, 0, DIRECTORY};
+    static const uint8_t strips[8] = {0x01, 0x02, 0x00, 0x01, 0x03, 0x04, 0xFF, 0xFF};
+
+    memset(file, 0, FILE_LEN);
+    memcpy(file, header, 8);
+    put(file + DIRECTORY, 2, 9);
+    for (size_t k = 0; k < 9; k += 1) {
+        uint8_t *entry = file + DIRECTORY + 2 + 12 * k;
+        put(entry, 2, tags[k][0]);
+        put(entry + 2, 2, tags[k][1]);
+        put(entry + 4, 4, tags[k][2]);
+        put(entry + 8, tags[k][1] == 3 ? 2 : 4, tags[k][3]);
+    }
+    for (uint32_t k = 0; k < 2; k += 1) {
+        put(file + VALUES + 4 * k, 4, FIRST + 4 * k);
+        put(file + VALUES + 8 + 4 * k, 4, 4);
+    }
+    memcpy(file + FIRST, strips, 8);
+}
+
+static void pages(const uint8_t *file, hamrisk_page *found) {
+    hamrisk_page before;
+
+    memset(found, CANARY, sizeof *found);
+    before = *found;
+    check("20 numbers of a page", sizeof *found == 20 * sizeof(size_t));
+    check("a page that is not there", hamrisk_directory(file, FILE_LEN, 1, found) == HAMRISK_INVALID
+                                          && memcmp(found, &before, sizeof before) == 0);
+    check("page 16",
+          hamrisk_directory(file, FILE_LEN, 16, found) == HAMRISK_LIMIT && memcmp(found, &before, sizeof before) == 0);
+    check("a file that lost its end", hamrisk_directory(file, FILE_LEN - 1, 0, found) == HAMRISK_TRUNCATED
+                                          && memcmp(found, &before, sizeof before) == 0);
+    check("a page", hamrisk_directory(file, FILE_LEN, 0, found) == HAMRISK_DONE && found->layout.w == 2 && found->layout.h == 2
+                        && found->layout.ch == 1 && found->layout.bytes == 2 && found->layout.slots == 1
+                        && found->layout.le == 0 && found->derived[0] == 2 && found->derived[1] == 2 && found->derived[4] == 8
+                        && found->derived[5] == 8 && found->predictor == 2 && found->strips == 2);
+}
+
+static void strips(const uint8_t *file) {
+    const size_t places[4] = {FIRST, 4, FIRST + 4, 4};
+    size_t parts[4] = {77, 77, 77, 77};
+    size_t place = 77, length = 77;
+
+    check("a strip past the end", hamrisk_strip(file, FILE_LEN - 1, 0, 1, &place, &length) == HAMRISK_TRUNCATED && place == 77
+                                      && length == 77);
+    check("a strip that is not there",
+          hamrisk_strip(file, FILE_LEN, 0, 2, &place, &length) == HAMRISK_INVALID && place == 77 && length == 77);
+    check("a sound strip of the same file", hamrisk_strip(file, FILE_LEN - 1, 0, 0, &place, &length) == HAMRISK_DONE
+                                                && place == FIRST && length == 4);
+    check("too few parts", hamrisk_strips(file, FILE_LEN, 0, parts, 3) == HAMRISK_OUTPUT_TOO_SMALL && parts[0] == 77
+                               && parts[2] == 77);
+    check("all strips",
+          hamrisk_strips(file, FILE_LEN, 0, parts, 4) == HAMRISK_DONE && memcmp(parts, places, sizeof parts) == 0);
+}
+
+static void files(void) {
+    const uint8_t picture[8] = {0x01, 0x02, 0x01, 0x03, 0x03, 0x04, 0x03, 0x03};
+    uint8_t file[FILE_LEN], planes[ROOM], out[ROOM];
+    hamrisk_page found;
+
+    make_file(file);
+    pages(file, &found);
+    strips(file);
+    clear(planes);
+    clear(out);
+    check("its samples", hamrisk_convert(file + FIRST, found.derived[4], found.derived[0] * found.derived[1],
+                                         found.derived[1] / found.layout.bytes, found.layout.bytes, found.layout.le,
+                                         found.predictor == 2, found.layout.le, planes, ROOM)
+                                 == HAMRISK_DONE
+                             && holds(planes, picture, 8));
+    check("its picture", hamrisk_render(&found.layout, file, FILE_LEN, planes, 8, out, ROOM) == HAMRISK_DONE
+                             && holds(out, picture, 8));
+}
+
 int main(void) {
     samples();
     bytes();
     damage();
     pictures();
+    files();
     printf("%d checks, %d differ\n", checks, differ);
     return differ == 0 ? 0 : 1;
 }

@@ -4,7 +4,8 @@
 //! stands for as many initialised bytes as its length says, what is lent to be written overlaps nothing else, a lent
 //! number is aligned, and a `bool` is 0 or 1.
 
-use crate::{ByteAt, ByteOrder, Coding, Derived, Layout, Refusal, SampleAt, Strip};
+use crate::{ByteAt, ByteOrder, Coding, Derived, Layout, Page, Refusal, SampleAt, Strip};
+use std::ops::Range;
 
 /// Declares functions of the archive that take a strip and its coding.
 macro_rules! declare_over_strip {
@@ -43,6 +44,29 @@ fn numbers(l: &Layout) -> [usize; 11] {
     [l.w, l.h, l.ch, l.bytes, l.slots, palette, separate, order, white, l.alpha, l.map]
 }
 
+/// A layout that the archive answers, from the same numbers.
+fn layout_of([w, h, ch, bytes, slots, palette, separate, le, white, alpha, map]: [usize; 11]) -> Layout {
+    let order = if le == 1 { ByteOrder::Little } else { ByteOrder::Big };
+    let (palette, separate, white) = (palette == 1, separate == 1, white == 1);
+    Layout { w, h, ch, bytes, slots, palette, separate, order, white, alpha, map }
+}
+
+/// What follows from a layout, from the numbers of the header's `derived`, in its order.
+fn derived_of(numbers: [usize; 7]) -> Derived {
+    let [encoded_width, plane_channels, planes, plane_length, scratch_length, output_length, colours] = numbers;
+    Derived { encoded_width, plane_channels, planes, plane_length, scratch_length, output_length, colours }
+}
+
+/// The header's `hamrisk_page`.
+#[repr(C)]
+#[derive(Default)]
+struct Found {
+    layout: [usize; 11],
+    derived: [usize; 7],
+    predictor: usize,
+    strips: usize,
+}
+
 extern "C" {
     fn hamrisk_read_word(s: *const u8, s_len: usize, at: usize, width: usize, le: bool, value: *mut u64) -> u32;
     fn hamrisk_load(s: *const u8, s_len: usize, i: usize, wide: bool, le: bool, value: *mut u32) -> u32;
@@ -79,6 +103,16 @@ extern "C" {
         planes: *mut u8,
         planes_len: usize,
     ) -> u32;
+    fn hamrisk_directory(file: *const u8, file_len: usize, page: usize, found: *mut Found) -> u32;
+    fn hamrisk_strip(
+        file: *const u8,
+        file_len: usize,
+        page: usize,
+        k: usize,
+        place: *mut usize,
+        length: *mut usize,
+    ) -> u32;
+    fn hamrisk_strips(file: *const u8, file_len: usize, page: usize, parts: *mut usize, parts_len: usize) -> u32;
 }
 
 declare_over_strip! {
@@ -295,8 +329,7 @@ pub fn check_layout(layout: &Layout) -> Result<Derived, Refusal> {
     let mut derived = [0; 7];
     // SAFETY: the pointers are those of a layout and of a local array of seven numbers, as the header asks.
     done(unsafe { hamrisk_check_layout(numbers(layout).as_ptr(), derived.as_mut_ptr()) })?;
-    let [encoded_width, plane_channels, planes, plane_length, scratch_length, output_length, colours] = derived;
-    Ok(Derived { encoded_width, plane_channels, planes, plane_length, scratch_length, output_length, colours })
+    Ok(derived_of(derived))
 }
 
 /// Which byte of the planes byte `k` of the picture comes from.
@@ -372,4 +405,87 @@ pub fn write_planes(layout: &Layout, picture: &[u8], planes: &mut [u8]) -> Resul
             planes.len(),
         )
     })
+}
+
+/// The page of a TIFF file, counted from 0: its layout, whether its samples are predicted, and how many strips it has.
+/// Every strip is in the file and has the length that its rows need.
+///
+/// Refuses, in this order:
+/// 1. `page` above 15 is Limit; a file under 8 bytes is Truncated; one that does not begin with II or MM, and 42 in that
+///    byte order, is Invalid.
+/// 2. For each directory on the way, the asked one too: a pointer to it of 0, a page that is not there, is Invalid; its
+///    count not in the file is Truncated; a count above 64 is Limit; entries or next pointer not in the file is
+///    Truncated; tags not strictly ascending is Invalid.
+/// 3. For each tag that is used, ascending (256, 257, 258, 259, 262, 273, 277, 278, 279, 284, 317, 320 with a palette
+///    alone, 338): missing, where there is no default, is Invalid; a wrong type is Invalid; a wrong count is Invalid;
+///    values not in the file is Truncated; a value that is not served is Unsupported, and 0 rows a strip is Invalid; a
+///    contradiction with lower tags is Invalid.
+/// 4. As [`check_layout`] of the page's layout.
+/// 5. For each strip, by number: a byte count that is not its rows × the bytes of a row is Invalid; an end past the
+///    file's is Truncated.
+///
+/// Served are strips that are not compressed: grey or three colours of 8 or 16 bits, with 8 bits one alpha beside them;
+/// bilevel; palettes of 1, 4 or 8 bits; planes together or apart; predicted, from 8 bits up, or not.
+///
+/// ```
+/// use hamrisk::{read_directory, Refusal};
+///
+/// let entry = |tag: u8, value: u8| [tag, 1, 3, 0, 1, 0, 0, 0, value, 0, 0, 0]; // one SHORT of tag 256 + `tag`
+/// let mut file = b"II*\0\x08\0\0\0\x07\0".to_vec(); // a directory of seven entries at byte 8
+/// for (tag, value) in [(0, 2), (1, 1), (2, 8), (6, 1), (17, 98), (22, 1), (23, 2)] {
+///     file.extend(entry(tag, value));
+/// }
+/// file.extend([0, 0, 0, 0, 50, 60]); // no further page; the strip at byte 98
+/// let page = read_directory(&file, 0)?;
+/// assert_eq!((page.layout.w, page.layout.h, page.strips), (2, 1, 1));
+/// assert_eq!(read_directory(&file, 1), Err(Refusal::Invalid));
+/// assert_eq!(read_directory(&file[..99], 0), Err(Refusal::Truncated));
+/// # Ok::<(), Refusal>(())
+/// ```
+pub fn read_directory(file: &[u8], page: usize) -> Result<Page, Refusal> {
+    let mut found = Found::default();
+    // SAFETY: the pointers are a slice's and that of a local page, as the header asks.
+    done(unsafe { hamrisk_directory(file.as_ptr(), file.len(), page, &mut found) })?;
+    let Found { layout, derived, predictor, strips } = found;
+    Ok(Page { layout: layout_of(layout), derived: derived_of(derived), predict: predictor == 2, strips })
+}
+
+/// Where strip `k` of a page stands in the file.
+///
+/// Refuses: 1 to 4 of [`read_directory`]; then a strip that is not there is Invalid; then 5 of that strip alone. So the
+/// sound strips of a file that lost its end are still found.
+///
+/// ```
+/// # let entry = |tag: u8, value: u8| [tag, 1, 3, 0, 1, 0, 0, 0, value, 0, 0, 0];
+/// # let mut file = b"II*\0\x08\0\0\0\x07\0".to_vec();
+/// # for (tag, value) in [(0, 2), (1, 1), (2, 8), (6, 1), (17, 98), (22, 1), (23, 2)] {
+/// #     file.extend(entry(tag, value));
+/// # }
+/// # file.extend([0, 0, 0, 0, 50, 60]);
+/// use hamrisk::{strip_place, Refusal};
+///
+/// // The file of `read_directory`.
+/// assert_eq!(strip_place(&file, 0, 0), Ok(98..100));
+/// assert_eq!(strip_place(&file, 0, 1), Err(Refusal::Invalid));
+/// ```
+pub fn strip_place(file: &[u8], page: usize, k: usize) -> Result<Range<usize>, Refusal> {
+    let (mut place, mut length) = (0, 0);
+    // SAFETY: the pointers are a slice's and two local numbers', as the header asks.
+    done(unsafe { hamrisk_strip(file.as_ptr(), file.len(), page, k, &mut place, &mut length) })?;
+    Ok(place..place + length)
+}
+
+/// The bytes of strip `k` of a page, a part of the file. Refuses as [`strip_place`].
+pub fn strip(file: &[u8], page: usize, k: usize) -> Result<&[u8], Refusal> {
+    Ok(&file[strip_place(file, page, k)?])
+}
+
+/// Where every strip of a page stands in the file: `parts` gets the place of strip k at 2k and its length at 2k + 1.
+/// One call for all strips costs as much as [`strip_place`] for one and a little for each.
+///
+/// Refuses: as [`read_directory`]; then `parts` shorter than 2 × strips is OutputTooSmall. Writes 2 × strips numbers of
+/// `parts`.
+pub fn strip_places(file: &[u8], page: usize, parts: &mut [usize]) -> Result<(), Refusal> {
+    // SAFETY: the pointers are two slices', which do not overlap, as the header asks.
+    done(unsafe { hamrisk_strips(file.as_ptr(), file.len(), page, parts.as_mut_ptr(), parts.len()) })
 }

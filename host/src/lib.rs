@@ -1,11 +1,20 @@
-//! The sample layer of TIFF, proved: words, byte swaps, bit reversal, predicted samples read and written, damage marks,
-//! layouts, and pictures rendered from planes and written to them.
+//! The sample layer of TIFF, proved: the pages and strips of a file, words, byte swaps, bit reversal, predicted samples
+//! read and written, damage marks, layouts, and pictures rendered from planes and written to them.
 //!
 //! Each call here hands the caller's slices to a function of the library in `crates/capi`, which is proved to meet its
 //! promise on every input: it ends, stays within its slices, and refuses in a fixed order. A refusal writes nothing. A
 //! call that is done writes the stated bytes at the front of its output and leaves the bytes past them as they were.
-//! The numbers that are served stand in [`limits`]. Nothing is allocated, but for the five calls that answer a `Vec`:
-//! [`converted`], [`forwarded`], [`marked`], [`rendered`] and [`written`].
+//! The numbers that are served stand in [`limits`]. Nothing is allocated, but for the calls that answer a `Vec`:
+//! [`converted`], [`forwarded`], [`marked`], [`rendered`], [`written`] and [`placed`]; [`explain`], which says what the
+//! refusal of a file is about; and [`picture`] and [`samples`], which need no more than a file:
+//!
+//! ```no_run
+//! let shelf = hamrisk::picture(&std::fs::read("shelf.tif")?, 0)?;
+//! println!("{} × {}: {:?}", shelf.page.layout.w, shelf.page.layout.h, &shelf.bytes[..4]);
+//! # Ok::<(), Box<dyn std::error::Error>>(())
+//! ```
+//!
+//! Each step is there by itself too:
 //!
 //! ```
 //! use hamrisk::{converted, ByteOrder, Coding, Refusal, Strip};
@@ -26,11 +35,15 @@
 mod ffi;
 pub mod limits;
 mod owned;
+mod pages;
+mod reading;
 mod types;
 
 pub use ffi::{
-    check_layout, check_strip, commit, convert, forward, index, load, marks, read_word, render, reverse_bits,
-    swap_components, write_planes,
+    check_layout, check_strip, commit, convert, forward, index, load, marks, read_directory, read_word, render,
+    reverse_bits, strip, strip_place, strip_places, swap_components, write_planes,
 };
 pub use owned::{converted, forwarded, marked, rendered, written};
-pub use types::{ByteAt, ByteOrder, Coding, Derived, Layout, Refusal, SampleAt, Strip};
+pub use pages::{picture, placed, samples, Picture, Samples};
+pub use reading::{explain, explain_layout, explain_strip, Fault, LayoutFault, Reading, StripFault, TagFault};
+pub use types::{ByteAt, ByteOrder, Coding, Derived, Layout, Page, Refusal, SampleAt, Strip};

@@ -80,3 +80,30 @@ pub const MOST_SIDE: usize = 16_384;
 
 /// The most bytes of the picture of a [`Layout`](crate::Layout).
 pub const MOST_PICTURE_BYTES: usize = 1_073_741_824;
+
+/// The most pages of a file that are read.
+pub const MOST_PAGES: usize = 16;
+
+/// The page of [`read_directory`](crate::read_directory), the first being 0.
+pub const PAGES: Served = Served::FromTo(0, MOST_PAGES - 1);
+
+/// The most entries of a directory.
+pub const MOST_ENTRIES: usize = 64;
+
+/// Bits of a sample of a page (tag 258).
+pub const SAMPLE_BITS: Served = Served::OneOf(&[1, 4, 8, 16]);
+
+/// How the strips of a page are compressed (tag 259): not at all.
+pub const COMPRESSIONS: Served = Served::OneOf(&[1]);
+
+/// What the samples of a page are (tag 262): grey with 0 white, grey with 0 black, three colours, or indices of colours.
+pub const COLOURS: Served = Served::FromTo(0, 3);
+
+/// Where the planes of a page stand (tag 284): together or apart.
+pub const PLANES: Served = Served::FromTo(1, 2);
+
+/// Whether the samples of a page are predicted (tag 317): no, or from 8 bits up yes.
+pub const PREDICTORS: Served = Served::FromTo(1, 2);
+
+/// What the extra sample of a page is (tag 338): an alpha that the colours are multiplied by, or not.
+pub const EXTRA_SAMPLES: Served = Served::FromTo(1, 2);

@@ -14,7 +14,8 @@ pub enum Refusal {
     Truncated,
     /// An output buffer too short.
     OutputTooSmall,
-    /// A size above the limits of [`check_layout`](crate::check_layout).
+    /// A size above the limits of [`check_layout`](crate::check_layout) or [`read_directory`](crate::read_directory), or
+    /// above what this machine has memory for.
     Limit,
 }
 
@@ -177,4 +178,26 @@ pub struct Derived {
     pub output_length: usize,
     /// Colours of a palette.
     pub colours: usize,
+}
+
+/// A page of a TIFF file.
+#[derive(Clone, Copy, Debug, PartialEq, Eq, Hash)]
+pub struct Page {
+    /// Its picture, and how the planes hold it: its strips end to end are the planes.
+    pub layout: Layout,
+    /// What follows from the layout.
+    pub derived: Derived,
+    /// Whether each sample but a row's first pixel is stored less the one a pixel before it.
+    pub predict: bool,
+    /// How many strips it has.
+    pub strips: usize,
+}
+
+impl Page {
+    /// The geometry of its strips, for [`convert`](crate::convert) and [`marks`](crate::marks).
+    pub fn geometry(&self) -> Strip {
+        let Derived { encoded_width, plane_channels, .. } = self.derived;
+        let width = self.layout.bytes;
+        Strip { row_bytes: encoded_width * plane_channels, channels: plane_channels / width, width }
+    }
 }

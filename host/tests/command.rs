@@ -2,6 +2,7 @@
 //! nothing behind.
 
 mod runner;
+mod tiff;
 
 use hamrisk::{ByteOrder, Coding, Strip};
 use std::ffi::OsStr;
@@ -10,6 +11,7 @@ use std::io::{ErrorKind, Write};
 use std::os::unix::ffi::OsStrExt;
 use std::path::{Path, PathBuf};
 use std::process::{Child, Command, Output, Stdio};
+use tiff::Page;
 
 /// A folder of its own for each test, removed at its end.
 struct Folder(PathBuf);
@@ -348,6 +350,15 @@ fn wrong_command_lines_end_with_64() {
         "render in out --w 2 --h 1 --ch 3 --palette --le",
         "render in out --w 2 --h 1 --file in",
         "demo out",
+        "info",
+        "info in out",
+        "info in --page",
+        "info in --page one",
+        "info in --strips=1",
+        "picture in",
+        "picture in out --to le",
+        "samples in out --pnm",
+        "samples in out --page 0 --page 0",
     ] {
         let (status, output, error) = folder.run(line);
         assert_eq!((status, output.as_str()), (64, ""), "{line}: {error}");
@@ -360,7 +371,13 @@ fn wrong_command_lines_end_with_64() {
 fn files_that_cannot_be_read_or_written_end_with_74() {
     let folder = Folder::new("files");
     folder.put("in", &[1]);
-    for (line, named) in [("reverse none out", "none"), ("reverse in none/out", "none/out"), ("reverse in .", ".")] {
+    for (line, named) in [
+        ("reverse none out", "none"),
+        ("reverse in none/out", "none/out"),
+        ("reverse in .", "."),
+        ("info none", "none"),
+        ("picture . out", "."),
+    ] {
         let (status, _, error) = folder.run(line);
         assert_eq!(status, 74, "{line}: {error}");
         assert!(error.starts_with(&format!("hamrisk: {named}: ")), "{line}: {error}");
@@ -493,7 +510,9 @@ fn help_of_each() {
     let folder = Folder::new("help");
     let (status, overview, _) = folder.run("--help");
     assert_eq!(status, 0);
-    for name in ["convert", "forward", "marks", "swap", "reverse", "render", "planes", "demo"] {
+    for name in
+        ["info", "picture", "samples", "convert", "forward", "marks", "swap", "reverse", "render", "planes", "demo"]
+    {
         assert!(overview.contains(&format!("\n  {name} ")), "{name}");
         let (status, text, error) = folder.run(&format!("{name} --help"));
         assert_eq!((status, error.as_str()), (0, ""));
@@ -507,10 +526,290 @@ fn help_of_each() {
         ("swap", "bytes of a group, 1 to 8; required"),
         ("render", "columns of the picture, 1 to 16384; required"),
         ("planes", "channels of a pixel of the picture, 1 to 4; 1 if not given"),
+        ("info", "which page, 0 to 15; 0, the first, if not given"),
     ] {
         let (_, text, _) = folder.run(&format!("{name} --help"));
         assert!(text.contains(served), "{text}");
     }
+}
+
+/// Depth of three columns and five rows, predicted, in strips of two rows.
+fn depth(order: ByteOrder) -> Vec<u8> {
+    let row = |first: u16| {
+        [first, 1, 0xFFFF].map(|v| if order == ByteOrder::Little { v.to_le_bytes() } else { v.to_be_bytes() })
+    };
+    let rows: Vec<Vec<u8>> = (0..5).map(|y| row(0x1200 + y).concat()).collect();
+    let strips = [rows[..2].concat(), rows[2..4].concat(), rows[4..].concat()];
+    let page = Page::grey(3, 5, 16, &strips.each_ref().map(|strip| &strip[..]));
+    tiff::file(order, &[page.with(278, &[2]).with(317, &[2])])
+}
+
+/// What `depth` holds, stored in this order.
+fn depths(order: ByteOrder) -> Vec<u8> {
+    let values = (0..5u16).flat_map(|y| [0x1200 + y, 0x1201 + y, 0x1200 + y]);
+    values.flat_map(|v| if order == ByteOrder::Little { v.to_le_bytes() } else { v.to_be_bytes() }).collect()
+}
+
+/// Red, green and blue of two pixels.
+fn colours() -> Page {
+    Page::grey(2, 1, 8, &[&[1, 2, 3, 4, 5, 6]]).with(258, &[8, 8, 8]).with(262, &[2]).with(277, &[3])
+}
+
+#[test]
+fn info_says_what_a_page_is() {
+    let folder = Folder::new("info");
+    folder.put("depth.tif", &depth(ByteOrder::Big));
+    let facts = "\
+byte order: be (MM)
+pages: 1
+page: 0
+columns: 3
+rows: 5
+samples: 1
+bits: 16
+colours: grey, 0 is black
+planes: together
+alpha: 0 (none)
+predictor: 2 (each sample less the one a pixel before it)
+strips: 3
+rows of a strip: 2, the last 1
+row bytes: 6
+bytes of the samples: 30
+bytes of the picture: 30
+";
+    assert_eq!(folder.run("info depth.tif"), (0, facts.into(), String::new()));
+    let strips = "\
+strip 0: place 134, length 12
+strip 1: place 146, length 12
+strip 2: place 158, length 6
+";
+    assert_eq!(folder.run("info depth.tif --strips"), (0, format!("{facts}{strips}"), String::new()));
+    let streamed = folder.piped(&depth(ByteOrder::Big), "info -");
+    assert_eq!(streamed, (0, facts.as_bytes().to_vec(), String::new()));
+}
+
+/// Facts that another page has.
+#[test]
+fn info_tells_pages_apart() {
+    let folder = Folder::new("info-pages");
+    let palette = Page::grey(3, 1, 4, &[&[0x12, 0x30]]).with(262, &[3]).with(320, &[7; 48]);
+    let planes = colours().with(258, &[8; 4]).with(277, &[4]).with(284, &[2]).with(338, &[1]);
+    let apart = planes.with(273, &[8, 10, 12, 14]).with(279, &[2; 4]);
+    let white = Page::grey(9, 1, 1, &[&[0x80, 0]]).with(258, &[]).with(262, &[0]);
+    let file = tiff::file(ByteOrder::Little, &[colours(), palette, apart, white]);
+    folder.put("pages.tif", &file);
+    for (page, facts) in [
+        (
+            "0",
+            &["pages: 4", "page: 0", "samples: 3", "bits: 8", "colours: red, green, blue", "predictor: 1 (none)"][..],
+        ),
+        (
+            "1",
+            &["byte order: le (II)", "samples: 1", "bits: 4", "colours: a palette of 16 at byte", "rows of a strip: 1"],
+        ),
+        ("2", &["planes: apart", "samples: 4", "strips: 4", "alpha: 1 (the colours are multiplied by it)"]),
+        (
+            "3",
+            &["page: 3", "bits: 1", "colours: grey, 0 is white", "bytes of the samples: 2", "bytes of the picture: 9"],
+        ),
+    ] {
+        let (status, text, error) = folder.run(&format!("info pages.tif --page {page}"));
+        assert_eq!((status, error.as_str()), (0, ""));
+        for fact in facts {
+            assert!(text.lines().any(|line| line.starts_with(fact)), "page {page}: {fact} is not in\n{text}");
+        }
+    }
+}
+
+/// A chain that loops has no last page, and one that breaks is counted up to there.
+#[test]
+fn info_counts_pages() {
+    let folder = Folder::new("info-count");
+    let end = |file: &[u8]| file.len() - 10;
+    let two = tiff::file(ByteOrder::Little, &[colours(), colours()]);
+    for (pointer, said) in [
+        (0, "2".to_string()),
+        (8, "16 or more; only so many are read".into()),
+        (
+            two.len() as u32,
+            format!(
+                "2, then no more can be read (page 2: its directory is at byte {0}, and the file ends at byte {0})",
+                two.len()
+            ),
+        ),
+    ] {
+        let mut file = two.clone();
+        // After the last directory come the three values of tag 258, and the six bytes of the strip.
+        let next = end(&file) - 6;
+        tiff::put(&mut file, ByteOrder::Little, next, 4, pointer);
+        folder.put("in", &file);
+        let (status, text, error) = folder.run("info in");
+        assert_eq!((status, error.as_str()), (0, ""));
+        assert!(text.contains(&format!("\npages: {said}\n")), "{text}");
+    }
+}
+
+#[test]
+fn picture_of_a_page() {
+    let folder = Folder::new("picture");
+    let big = depths(ByteOrder::Big);
+    for order in [ByteOrder::Little, ByteOrder::Big] {
+        assert_eq!(folder.written(&depth(order), "picture in out"), big);
+        let pgm = [b"P5\n3 5\n65535\n", &big[..]].concat();
+        assert_eq!(folder.written(&depth(order), "picture in out --pnm"), pgm);
+        assert_eq!(folder.piped(&depth(order), "picture - -"), (0, big.clone(), String::new()));
+        assert_eq!(folder.piped(&depth(order), "picture --pnm - -"), (0, pgm, String::new()));
+    }
+    let second = tiff::file(ByteOrder::Big, &[Page::grey(1, 1, 8, &[&[7]]), colours()]);
+    assert_eq!(folder.written(&second, "picture in out --page 1"), [1, 2, 3, 4, 5, 6]);
+    assert_eq!(folder.written(&second, "picture in out --page=0"), [7]);
+    let white = tiff::file(ByteOrder::Big, &[Page::grey(9, 1, 1, &[&[0x80, 0x80]]).with(262, &[0])]);
+    assert_eq!(folder.written(&white, "picture in out"), [0, 255, 255, 255, 255, 255, 255, 255, 0]);
+    let mut map = vec![0; 48];
+    (map[1], map[16 + 1], map[32 + 1]) = (0x0A00, 0x1400, 0x1E00);
+    let palette = Page::grey(3, 1, 4, &[&[0x10, 0x10]]).with(262, &[3]).with(320, &map);
+    let palette = tiff::file(ByteOrder::Little, &[palette]);
+    assert_eq!(folder.written(&palette, "picture in out"), [10, 20, 30, 0, 0, 0, 10, 20, 30]);
+}
+
+/// The name of OUT says what is written.
+#[test]
+fn picture_by_the_name_of_out() {
+    let folder = Folder::new("forms");
+    folder.put("grey", &tiff::file(ByteOrder::Big, &[Page::grey(2, 1, 8, &[&[8, 9]])]));
+    folder.put("colours", &tiff::file(ByteOrder::Big, &[colours()]));
+    let alpha = Page::grey(1, 1, 8, &[&[8, 9]]).with(258, &[8, 8]).with(277, &[2]).with(338, &[2]);
+    folder.put("alpha", &tiff::file(ByteOrder::Big, &[alpha]));
+    for (line, out, expected) in [
+        ("picture grey", "a.pgm", &b"P5\n2 1\n255\n\x08\x09"[..]),
+        ("picture grey", "a.PNM", b"P5\n2 1\n255\n\x08\x09"),
+        ("picture grey", "pgm", b"\x08\x09"),
+        ("picture grey", "a.pam", b"P7\nWIDTH 2\nHEIGHT 1\nDEPTH 1\nMAXVAL 255\nTUPLTYPE GRAYSCALE\nENDHDR\n\x08\x09"),
+        ("picture colours", "a.ppm", b"P6\n2 1\n255\n\x01\x02\x03\x04\x05\x06"),
+        ("picture colours", "a.pnm", b"P6\n2 1\n255\n\x01\x02\x03\x04\x05\x06"),
+        ("picture colours --pnm", "a.pgm", b"P6\n2 1\n255\n\x01\x02\x03\x04\x05\x06"),
+        ("picture alpha", "a.pgm", b"P5\n1 1\n255\n\x08"),
+        (
+            "picture alpha",
+            "a.pam",
+            b"P7\nWIDTH 1\nHEIGHT 1\nDEPTH 2\nMAXVAL 255\nTUPLTYPE GRAYSCALE_ALPHA\nENDHDR\n\x08\x09",
+        ),
+        ("picture alpha", "a.tif.raw", b"\x08\x09"),
+        ("render grey --w 1 --h 1", "a.pgm", b"P5\n1 1\n255\nM"),
+    ] {
+        assert_eq!(folder.run(&format!("{line} {out}")), (0, String::new(), String::new()));
+        assert_eq!(folder.get(out), expected, "{line} {out}");
+        fs::remove_file(folder.0.join(out)).unwrap();
+    }
+    for (line, words) in [
+        ("picture grey a.ppm", "a .ppm has colours, and this picture is grey: call OUT .pgm or .pnm"),
+        ("picture colours a.pgm", "a .pgm is grey, and this picture has colours: call OUT .ppm or .pnm"),
+        ("picture colours a.png", "such a file is not written: call OUT .pgm, .ppm, .pnm or .pam to look at it"),
+    ] {
+        let said = format!("hamrisk: picture: {words}; see hamrisk picture --help\n");
+        assert_eq!(folder.run(line), (64, String::new(), said));
+    }
+    assert_eq!(folder.names(), ["alpha", "colours", "grey"]);
+}
+
+#[test]
+fn samples_of_a_page() {
+    let folder = Folder::new("samples");
+    for from in [ByteOrder::Little, ByteOrder::Big] {
+        for (to, name) in [(ByteOrder::Little, "le"), (ByteOrder::Big, "be")] {
+            assert_eq!(folder.written(&depth(from), &format!("samples in out --to {name}")), depths(to));
+        }
+        assert_eq!(folder.piped(&depth(from), "samples - - --to le"), (0, depths(ByteOrder::Little), String::new()));
+        let words =
+            "samples: --to is missing: samples of 16 bits want a byte order, le or be; see hamrisk samples --help";
+        folder.refused(&depth(from), "samples in out", 64, words);
+        let words = "samples: --to wants le or be, not 'me'; see hamrisk samples --help";
+        folder.refused(&depth(from), "samples in out --to me", 64, words);
+    }
+    let planes = colours().with(284, &[2]).with(273, &[8, 10, 12]).with(279, &[2; 3]);
+    let mut file = tiff::file(ByteOrder::Little, &[colours(), planes.clone(), Page::grey(9, 1, 1, &[&[0x80, 0x7F]])]);
+    let end = file.len() as u32;
+    file.extend([1, 4, 2, 5, 3, 6]);
+    for to in ["", "--to le", "--to be"] {
+        assert_eq!(folder.written(&file, &format!("samples in out {to}")), [1, 2, 3, 4, 5, 6]);
+        assert_eq!(folder.written(&file, &format!("samples in out --page 2 {to}")), [0x80, 0x7F]);
+    }
+    let apart = planes.with(273, &[end, end + 2, end + 4]);
+    let mut apart = tiff::file(ByteOrder::Little, &[apart]);
+    apart.resize(end as usize, 0);
+    apart.extend([1, 4, 2, 5, 3, 6]);
+    assert_eq!(folder.written(&apart, "samples in out"), [1, 4, 2, 5, 3, 6]);
+    assert_eq!(folder.written(&apart, "picture in out"), [1, 2, 3, 4, 5, 6]);
+}
+
+/// Each kind of refusal, with the directory, entry, tag or strip that it is about.
+#[test]
+fn refusals_name_the_tag() {
+    let folder = Folder::new("tags");
+    let of = |page: Page| tiff::file(ByteOrder::Little, &[page]);
+    let good = of(colours());
+    let changed = |at: usize, size: usize, value: u32| {
+        let mut file = good.clone();
+        tiff::put(&mut file, ByteOrder::Little, at, size, value);
+        file
+    };
+    for (file, page, status, words) in [
+        (good.clone(), "16", 5, "page 16 is above 15, the highest that is read"),
+        (good[..7].to_vec(), "0", 3, "the file's length is 7"),
+        (changed(0, 2, 0), "0", 2, "the file begins with bytes"),
+        (changed(2, 2, 43), "0", 2, "43"),
+        (good.clone(), "1", 2, "page 1 is not there: the file has 1 page"),
+        (changed(4, 4, 4000), "0", 3, "page 0: its directory is at byte 4000"),
+        (changed(8, 2, 65), "0", 5, "page 0: the directory at byte 8 says 65 entries"),
+        (good[..40].to_vec(), "0", 3, "page 0: the directory at byte 8"),
+        (changed(22, 2, 256), "0", 2, "page 0: entry 1 has tag 256"),
+        (of(colours().with(256, &[])), "0", 2, "tag 256 (ImageWidth)"),
+        (changed(12, 2, 4 + 256), "0", 2, "tag 256 (ImageWidth)"),
+        (of(colours().with(257, &[1, 1])), "0", 2, "tag 257 (ImageLength)"),
+        (changed(42, 4, 4000), "0", 3, "tag 258 (BitsPerSample)"),
+        (of(colours().with(259, &[5])), "0", 1, "tag 259 (Compression): its value is 5"),
+        (of(colours().with(278, &[0])), "0", 2, "tag 278 (RowsPerStrip)"),
+        (of(colours().with(277, &[4])), "0", 2, "tag 277 (SamplesPerPixel)"),
+        (of(Page::grey(2, 2, 4, &[&[0; 2]])), "0", 2, "tag 258 (BitsPerSample)"),
+        (of(Page::grey(16_385, 1, 8, &[&[0; 16_385]])), "0", 5, "tag 256 (ImageWidth)"),
+        (of(colours().with(257, &[2]).with(278, &[2])), "0", 2, "strip 0: its byte count is 6"),
+        (good[..good.len() - 1].to_vec(), "0", 3, "strip 0: at byte"),
+    ] {
+        let kind = ["", "Unsupported", "Invalid", "Truncated", "OutputTooSmall", "Limit"][status as usize];
+        folder.put("in", &file);
+        for call in ["picture in out", "samples in out", "info in"] {
+            let line = format!("{call} --page {page}");
+            let (ended, output, error) = folder.run(&line);
+            let name = call.split(' ').next().unwrap();
+            let begins = format!("hamrisk: {name} refused: {status} {kind}: ");
+            assert!(ended == status && error.starts_with(&begins) && error.contains(words), "{line}: {ended}: {error}");
+            assert!(output.is_empty() || words.starts_with("strip"), "{line}: {output}");
+            assert_eq!(folder.names(), ["in"], "{line}");
+        }
+    }
+    let words = "picture refused: 2 Invalid: page 1 is not there: the file has 1 page";
+    folder.refused(&good, "picture in out --page 1", 2, words);
+}
+
+/// What a directory says is true also where the file lost its end; the strips that it still has are told from the others.
+#[test]
+fn info_of_a_file_that_lost_its_end() {
+    let folder = Folder::new("lost-end");
+    let whole = depth(ByteOrder::Little);
+    folder.put("in", &whole[..148]);
+    let error = "strip 1: at byte 146 with 12 bytes it ends at byte 158, the file at byte 148";
+    let (status, text, said) = folder.run("info in --strips");
+    assert_eq!((status, said), (3, format!("hamrisk: info refused: 3 Truncated: {error}\n")));
+    assert!(text.contains("\nbits: 16\n") && text.contains("\nstrips: 3, of which 1 is sound\n"), "{text}");
+    assert!(!text.contains("rows of a strip"), "{text}");
+    let strips = "\
+strip 0: place 134, length 12
+strip 1: at byte 146 with 12 bytes it ends at byte 158, the file at byte 148 (3 Truncated)
+strip 2: at byte 158 with 6 bytes it ends at byte 164, the file at byte 148 (3 Truncated)
+";
+    assert!(text.ends_with(strips), "{text}");
+    let refused = format!("picture refused: 3 Truncated: {error}");
+    folder.refused(&whole[..148], "picture in out", 3, &refused);
 }
 
 #[test]

@@ -1,23 +1,37 @@
 //! The numbers of `hamrisk::limits`, held to what the library itself serves and refuses.
 
-use hamrisk::limits::{self, Served, MOST_PICTURE_BYTES, MOST_SIDE};
+mod tiff;
+
+use hamrisk::limits::{self, Served, MOST_ENTRIES, MOST_PAGES, MOST_PICTURE_BYTES, MOST_SIDE};
 use hamrisk::{
-    check_layout, check_strip, read_word, rendered, swap_components, written, ByteAt, ByteOrder, Layout, Refusal, Strip,
+    check_layout, check_strip, read_directory, read_word, rendered, swap_components, written, ByteAt, ByteOrder,
+    Layout, Refusal, Strip,
 };
+use tiff::Page;
 
 /// A layout that is served, of one pixel.
 const DOT: Layout = Layout::grey(1, 1, ByteOrder::Little);
+
+/// A page of one pixel that is served.
+fn dot() -> Page {
+    Page::grey(1, 1, 8, &[&[7]])
+}
 
 /// Whatever has not the number itself for its fault: the numbers beside it may not fit it.
 fn passes<T>(answer: Result<T, Refusal>) -> bool {
     !matches!(answer, Err(Refusal::Unsupported))
 }
 
-/// Asks the library about every small value, those beside powers of two, and the largest.
+/// Every small value, those beside powers of two, and the largest.
+fn tried() -> impl Iterator<Item = usize> {
+    let large = (8..usize::BITS).flat_map(|bits| [(1 << bits) - 1, 1 << bits, (1 << bits) + 1]);
+    (0..=256).chain(large).chain([usize::MAX])
+}
+
+/// Asks the library about all of these.
 #[track_caller]
 fn assert_served(name: &str, served: Served, library: impl Fn(usize) -> bool) {
-    let large = (8..usize::BITS).flat_map(|bits| [(1 << bits) - 1, 1 << bits, (1 << bits) + 1]);
-    for value in (0..=256).chain(large).chain([usize::MAX]) {
+    for value in tried() {
         assert_eq!(library(value), served.has(value), "{name} {value}; {served} are said to be served");
     }
 }
@@ -84,4 +98,42 @@ fn bytes_of_a_picture() {
         nearest < MOST_PICTURE_BYTES + 64,
         "the smallest picture that is refused has {nearest} bytes: too far above"
     );
+}
+
+#[test]
+fn pages_of_a_file() {
+    let file = tiff::file(ByteOrder::Big, &vec![dot(); MOST_PAGES + 1]);
+    assert_served("page", limits::PAGES, |page| read_directory(&file, page).is_ok());
+    assert_eq!(read_directory(&file, MOST_PAGES), Err(Refusal::Limit));
+}
+
+#[test]
+fn entries_of_a_directory() {
+    let own = 6;
+    for entries in [MOST_ENTRIES - 1, MOST_ENTRIES, MOST_ENTRIES + 1] {
+        let full = (own..entries).fold(dot(), |page, n| page.with(40_000 + n as u16, &[0]));
+        let file = tiff::file(ByteOrder::Little, &[full]);
+        assert_eq!(file[8], entries as u8);
+        let expected = if entries > MOST_ENTRIES { Err(Refusal::Limit) } else { Ok(1) };
+        assert_eq!(read_directory(&file, 0).map(|page| page.strips), expected, "{entries} entries");
+    }
+}
+
+/// Values of two bytes, which these tags have.
+#[test]
+fn values_of_tags() {
+    let alpha = dot().with(258, &[8, 8]).with(277, &[2]).with(338, &[1]);
+    for (tag, page, served) in [
+        (258, dot(), limits::SAMPLE_BITS),
+        (259, dot(), limits::COMPRESSIONS),
+        (262, dot(), limits::COLOURS),
+        (284, dot(), limits::PLANES),
+        (317, dot(), limits::PREDICTORS),
+        (338, alpha, limits::EXTRA_SAMPLES),
+    ] {
+        for value in tried().filter(|value| *value <= usize::from(u16::MAX)) {
+            let file = tiff::file(ByteOrder::Little, &[page.clone().with(tag, &[value as u32])]);
+            assert_eq!(passes(read_directory(&file, 0)), served.has(value), "tag {tag}, value {value}");
+        }
+    }
 }

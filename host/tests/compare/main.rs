@@ -1,11 +1,14 @@
 //! Every call beside an independent plain Rust reading of docs/RULES.md, on random and edge inputs, with canaries around
 //! every buffer.
 
+mod directories;
 mod lent;
+mod made;
 mod numbers;
 mod pictures;
 mod plain;
 mod random;
+mod spoiled;
 mod strips;
 mod words;
 

@@ -15,16 +15,17 @@ extern "C" {
     fn hamrisk_index(layout: *const usize, k: usize, place: *mut usize) -> u32;
 }
 
-/// Calls with a pointer to the middle of a row of numbers, and checks what became of all of them.
+/// Calls with a pointer to `room` numbers in the middle of others, and checks what became of all of them.
 #[track_caller]
-fn check<T: Copy + PartialEq + std::fmt::Debug>(
+pub fn check<T: Copy + PartialEq + std::fmt::Debug>(
     canary: T,
+    room: usize,
     expected: Result<Vec<T>, u32>,
     call: impl FnOnce(*mut T) -> u32,
 ) {
-    let mut numbers = [canary; 24];
+    let mut numbers = vec![canary; 8 + room + 8];
+    let mut wanted = numbers.clone();
     let status = call(numbers[8..].as_mut_ptr());
-    let mut wanted = [canary; 24];
     match expected {
         Ok(values) => {
             assert_eq!(status, 0);
@@ -51,11 +52,11 @@ fn words() {
         let (at, width, le, wide) = (random.below(14), random.below(10), random.flag(), random.flag());
         let at = if random.below(10) == 0 { usize::MAX - at } else { at };
         // SAFETY: the pointers are those of a slice and of a number in an array.
-        check(0xA5A5_5A5A_A5A5_5A5A, plain::read_word(&s, at, width, order(le)).map(|v| vec![v]), |value| unsafe {
+        check(0xA5A5_5A5A_A5A5_5A5A, 1, plain::read_word(&s, at, width, order(le)).map(|v| vec![v]), |value| unsafe {
             hamrisk_read_word(s.as_ptr(), s.len(), at, width, le, value)
         });
         // SAFETY: the pointers are those of a slice and of a number in an array.
-        check(0xA5A5_5A5A, plain::load(&s, at, wide, order(le)).map(|v| vec![v]), |value| unsafe {
+        check(0xA5A5_5A5A, 1, plain::load(&s, at, wide, order(le)).map(|v| vec![v]), |value| unsafe {
             hamrisk_load(s.as_ptr(), s.len(), at, wide, le, value)
         });
     }
@@ -75,7 +76,7 @@ fn counts() {
         let mut marks = vec![0; room];
         let count = |marks: Vec<u8>| vec![marks.iter().filter(|&&m| m == 1).count()];
         // SAFETY: the pointers are those of two slices and of a number in an array.
-        check(usize::MAX / 3, plain::marks(&damage, strip, predict, room).map(count), |count| unsafe {
+        check(usize::MAX / 3, 1, plain::marks(&damage, strip, predict, room).map(count), |count| unsafe {
             let Strip { row_bytes, channels, width } = strip;
             hamrisk_marks(
                 damage.as_ptr(),
@@ -117,9 +118,9 @@ fn layouts() {
         let seven = if flagged { Err(1) } else { plain::check_layout(&l).map(seven) };
         let place = if flagged { Err(1) } else { plain::index(&l, k).map(|place| vec![place]) };
         // SAFETY: the pointers are those of eleven numbers and of seven in an array.
-        check(usize::MAX / 5, seven, |derived| unsafe { hamrisk_check_layout(fields.as_ptr(), derived) });
+        check(usize::MAX / 5, 7, seven, |derived| unsafe { hamrisk_check_layout(fields.as_ptr(), derived) });
         // SAFETY: the pointers are those of eleven numbers and of one in an array.
-        check(usize::MAX / 7, place, |place| unsafe { hamrisk_index(fields.as_ptr(), k, place) });
+        check(usize::MAX / 7, 1, place, |place| unsafe { hamrisk_index(fields.as_ptr(), k, place) });
     }
 }
 
@@ -129,6 +130,6 @@ fn flag(random: &mut Random) -> usize {
 }
 
 /// What follows from a layout, in the header's order.
-fn seven(d: Derived) -> Vec<usize> {
+pub fn seven(d: Derived) -> Vec<usize> {
     vec![d.encoded_width, d.plane_channels, d.planes, d.plane_length, d.scratch_length, d.output_length, d.colours]
 }

@@ -2,6 +2,7 @@
 
 use crate::failure::Failure;
 use hamrisk::limits::Served;
+use hamrisk::ByteOrder;
 use std::ffi::{OsStr, OsString};
 use std::path::Path;
 
@@ -105,6 +106,16 @@ impl Args {
             (true, true) => Err(self.wrong(format!("one of --{one} and --{other} is wanted, not both"))),
             (false, false) => Ok(None),
             (first, _) => Ok(Some(first)),
+        }
+    }
+
+    /// A byte order, if it is given.
+    pub fn order(&self, name: &str) -> Result<Option<ByteOrder>, Failure> {
+        match self.value(name) {
+            None => Ok(None),
+            Some(given) if given == "le" => Ok(Some(ByteOrder::Little)),
+            Some(given) if given == "be" => Ok(Some(ByteOrder::Big)),
+            Some(given) => Err(self.wrong(format!("--{name} wants le or be, not '{}'", given.to_string_lossy()))),
         }
     }
 

@@ -2,7 +2,7 @@
 
 use crate::args::{Args, Opt, Syntax};
 use crate::failure::Failure;
-use crate::{demo, layouts, strips};
+use crate::{demo, layouts, pages, strips};
 use hamrisk::limits::{self, Served};
 
 pub struct Command {
@@ -68,10 +68,23 @@ const LAYOUT: &[Opt] = &[
     opt("map", "N", "the byte of the palette's file at which the palette begins; 0 if not given"),
 ];
 
-const RENDER: &[Opt] = &[
-    opt("file", "FILE", "the file that has the palette: all reds, greens, blues, two bytes each"),
-    opt("pnm", "", "write a PGM (ch 1 or 2) or a PPM (ch 3 or 4) to look at; alpha is left out"),
-];
+const PALETTE: &[Opt] =
+    &[opt("file", "FILE", "the file that has the palette: all reds, greens, blues, two bytes each")];
+
+const PNM: &[Opt] = &[opt("pnm", "", "write a PGM (grey) or a PPM (three colours) to look at, whatever OUT is called")];
+
+/// What a picture is written as.
+const FORMS: &str = "\
+Channels of two bytes come out most significant byte first. An OUT called .pgm, .ppm, .pnm (either) or
+.pam gets a header that viewers know; any other gets the bytes alone. A .pam keeps alpha, the others
+leave it out.
+";
+
+const PAGE: &[Opt] = &[number("page", "which page, {}; 0, the first, if not given", limits::PAGES)];
+
+const STRIPS: &[Opt] = &[opt("strips", "", "a line for each strip too: its number, its place in FILE and its length")];
+
+const TO: &[Opt] = &[opt("to", "le|be", "the byte order of OUT; required if samples have 16 bits")];
 
 const MARKS: &[Opt] = &[opt("pgm", "", "write a PGM to look at, a pixel for each sample, white if marked")];
 
@@ -80,6 +93,28 @@ const SWAP: &[Opt] = &[number("width", "bytes of a group, {}; required", limits:
 const DEMO: &[Opt] = &[opt("to", "DIR", "where the pictures go; hamrisk-demo in the temporary folder if not given")];
 
 pub const COMMANDS: &[Command] = &[
+    Command {
+        syntax: Syntax { name: "info", files: &["FILE"], groups: &[PAGE, STRIPS] },
+        about: "say what a page of the TIFF file FILE is, a line for each fact",
+        notes:
+            "Read are strips that are not compressed: grey or red, green and blue, of 8 or 16 bits, with 8 bits one\n\
+                alpha beside them; bilevel; palettes of 1, 4 or 8 bits; planes together or apart, predicted or not. A\n\
+                page with a strip that is not sound is refused, but what its directory says is printed.\n",
+        run: pages::info,
+    },
+    Command {
+        syntax: Syntax { name: "picture", files: &["FILE", "OUT"], groups: &[PAGE, PNM] },
+        about: "write the picture of a page of the TIFF file FILE",
+        notes: FORMS,
+        run: pages::picture,
+    },
+    Command {
+        syntax: Syntax { name: "samples", files: &["FILE", "OUT"], groups: &[PAGE, TO] },
+        about: "write the samples of a page of the TIFF file FILE, prediction undone",
+        notes: "Planes come one after the other, each row by row. Samples of 1 or 4 bits stay packed in bytes,\n\
+                and each row begins with a new byte.\n",
+        run: pages::samples,
+    },
     Command {
         syntax: Syntax { name: "convert", files: &["IN", "OUT"], groups: &[STRIP, PREDICT, ORDERS] },
         about: "read the samples of the strip IN, predicted or not, and write them to OUT",
@@ -112,9 +147,9 @@ pub const COMMANDS: &[Command] = &[
         run: strips::reverse,
     },
     Command {
-        syntax: Syntax { name: "render", files: &["IN", "OUT"], groups: &[LAYOUT, RENDER] },
+        syntax: Syntax { name: "render", files: &["IN", "OUT"], groups: &[LAYOUT, PALETTE, PNM] },
         about: "write the picture that the planes IN hold",
-        notes: "Channels of two bytes come out most significant byte first.\n",
+        notes: FORMS,
         run: layouts::render,
     },
     Command {

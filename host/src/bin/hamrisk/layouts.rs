@@ -2,21 +2,20 @@
 
 use crate::args::Args;
 use crate::failure::Failure;
-use crate::{faults, files, pictures};
+use crate::pictures::Form;
+use crate::{faults, files};
 use hamrisk::{rendered, written, ByteOrder, Layout};
 use std::path::Path;
 
 pub fn render(args: &Args) -> Result<(), Failure> {
     let layout = layout(args)?;
+    let form = Form::asked(args.file(1), args.has("pnm"), &layout).map_err(|what| args.wrong(what.into()))?;
     let file = palette_file(args, &layout)?;
     let raw = files::read(args.file(0))?;
     let picture = rendered(&layout, &file, &raw)
         .map_err(|refusal| Failure::refused("render", refusal, faults::of_render(&layout, file.len(), raw.len())))?;
-    if !args.has("pnm") {
-        return files::write(args.file(1), &[&picture]);
-    }
-    let (header, pixels) = pictures::of_rendered(&layout, picture);
-    files::write(args.file(1), &[header.as_bytes(), &pixels])
+    let (header, bytes) = form.of_rendered(&layout, picture);
+    files::write(args.file(1), &[header.as_bytes(), &bytes])
 }
 
 pub fn planes(args: &Args) -> Result<(), Failure> {

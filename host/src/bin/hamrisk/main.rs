@@ -5,18 +5,20 @@
 //! - `main`
 //! - `help`: the texts
 //! - `commands`: the table of what there is
-//! - `strips`, `layouts`, `demo`: what each command does
-//! - `args`, `faults`, `files`, `pictures`: what they do it with
+//! - `pages`, `strips`, `layouts`, `demo`: what each command does
+//! - `args`, `facts`, `faults`, `files`, `pictures`: what they do it with
 //! - `failure`, `progress`
 
 mod args;
 mod commands;
 mod demo;
+mod facts;
 mod failure;
 mod faults;
 mod files;
 mod help;
 mod layouts;
+mod pages;
 mod pictures;
 mod progress;
 mod strips;

@@ -110,15 +110,13 @@ fn strip(args: &Args) -> Result<Strip, Failure> {
 
 /// Has to be said of samples of more than one byte, as a wrong guess would swap every one without a word.
 fn order(args: &Args, name: &str, width: usize) -> Result<ByteOrder, Failure> {
-    match args.value(name) {
+    match args.order(name)? {
+        Some(order) => Ok(order),
         None if width > 1 => {
             Err(args.wrong(format!("--{name} is missing: width {width} wants a byte order, le or be")))
         }
         // Samples of one byte are the same in both orders.
         None => Ok(ByteOrder::Little),
-        Some(given) if given == "le" => Ok(ByteOrder::Little),
-        Some(given) if given == "be" => Ok(ByteOrder::Big),
-        Some(given) => Err(args.wrong(format!("--{name} wants le or be, not '{}'", given.to_string_lossy()))),
     }
 }
 
