@@ -1,22 +1,20 @@
 -- From what each part answers to what the calls promise. Assumes nothing.
 use Prim.Native.Nat.{_+_, _≤_, ℕ}
-use Rattle.answer.proofs.Promised.{done-sound, done-value, first-more, refused-told, refuses, refusing, sound-back, sound-front, sound-here, sound-rest, sound-skip}
-use Rattle.answer.specs.Outcome.{Fault, Outcome, Promise, Sound, after, done, later, number, refused, unless}
+use Rattle.answer.proofs.Promised.{done-sound, done-value, first-more, refused-told, refuses, refusing, sound-back, sound-here, sound-rest, sound-skip}
+use Rattle.answer.specs.Outcome.{Fault, Outcome, Promise, Sound, after, done, number, refused, unless}
 use Rattle.answer.specs.declared.ByteAt.{ByteAt}
 use Rattle.answer.specs.declared.Done.{Done}
 use Rattle.answer.specs.declared.Refusal.{Refusal}
-use Rattle.directory.proofs.Laying.{said}
-use Rattle.directory.proofs.Saying.{SplitSaid, split-said}
-use Rattle.directory.specs.Entries.{directory, openFaults}
-use Rattle.directory.specs.Page.{DirectoryRead, Part, StripCut, StripPlaced, StripsPlaced, cut, foundOutcome, laterFaults, oneFaults, pageFaults, pageOf, pageStrips, partsFaults, placeFaults, placeOutcome, placed, stripFaults, stripLength, stripPart, stripPlace, stripsBy, stripsFaults}
-use Rattle.directory.specs.Parts.{OnePlaced, PageOpened, PartsPlaced, StripsThere, openingOutcome, pageBy, wholeOf}
-use Rattle.directory.specs.Tags.{shapeFaults, shapeOf, splitOf}
+use Rattle.directory.specs.Page.{DirectoryRead, Part, StripCut, StripPlaced, StripsPlaced, cut, foundOutcome, oneFaults, pageFaults, pageOf, pageStrips, partsFaults, placeFaults, placeOutcome, placed, stripFaults, stripLength, stripPart, stripPlace, stripsFaults}
+use Rattle.directory.specs.Parts.{OnePlaced, PageOpened, PartsPlaced, openingOutcome, pageBy, wholeBy}
 use Rattle.directory.specs.declared.Found.{Found}
 use Rattle.directory.specs.declared.Place.{Place}
-use Rattle.directory.specs.declared.entries.Directory.{Directory}
 use Rattle.directory.specs.declared.pages.Opening.{Opening}
 use Rattle.directory.specs.declared.pages.Whole.{Whole}
 use Rattle.directory.specs.declared.strips.Strips.{Strips}
+use Rattle.entries.specs.Entries.{directory}
+use Rattle.entries.specs.declared.Directory.{Directory}
+use Rattle.tags.specs.Tags.{tagsOf}
 use borrow.Author.Tests.{ltb-false}
 use lib.ListN.{drop, length, take}
 use mathlib.Core.List.{List, [], _++_}
@@ -25,21 +23,6 @@ use native.Mathlib.Omega.{arith}
 use Rattle.directory.specs.declared.pages.Opening.the-variants as Opening-is
 use Rattle.directory.specs.declared.Place.the-variants as Place-is
 use Rattle.answer.specs.declared.Done.the-variants as Done-is
-
--- the strips of a page past its other faults are all there
-pub page-said : (file : List ℕ) (page : ℕ) → Sound (pageFaults file page) → let d = directory file page in SplitSaid file (shapeOf file d) (splitOf file d)
-unfolding pageFaults
-page-said file page sound =
-    let d = directory file page in
-    let told = sound-back (openFaults file page) _ sound in
-    let later = sound-front (laterFaults file d) _ (sound-back (shapeFaults file (d .le) (shapeOf file d)) _ told) in
-    split-said file (shapeOf file d) (splitOf file d) (sound-front _ _ later)
-
-pub page-strips : (file : List ℕ) (page : ℕ) → Sound (pageFaults file page) → StripsThere file (pageStrips file (directory file page))
-unfolding stripsBy
-page-strips file page sound =
-    let said = page-said file page sound in
-    record { offsets = said .offsets; counts = said .counts; same = said .same }
 
 -- a promise of the faults that are left
 skip-promise : {A : Type 0} {fs : List Fault} (gs : List Fault) (a : A) (w old : List ℕ) {answer : Outcome A} {new : List ℕ} → Sound fs → Promise (unless gs a) w old answer new → Promise (unless (fs ++ gs) a) w old answer new
@@ -52,23 +35,20 @@ module _ (file : List ℕ) (page : ℕ) (o : Opening) (p : PageOpened file page 
   d = directory file page
 
   pub page-refused : {A : Type 0} (gs : List Fault) (x : A) (k : Refusal) → o ≡ Opening-is.Refused k → refused (number k) ≡ unless (pageFaults file page ++ gs) x
-  page-refused gs x k e = refusing (pageFaults file page ++ gs) x (first-more gs (refused-told (pageFaults file page) (wholeOf file d) k (sym (ap openingOutcome e) ∙ p)))
+  page-refused gs x k e = refusing (pageFaults file page ++ gs) x (first-more gs (refused-told (pageFaults file page) (wholeBy (tagsOf file d)) k (sym (ap openingOutcome e) ∙ p)))
 
   pub parts-refused : (old : List ℕ) (k : Refusal) → o ≡ Opening-is.Refused k → StripsPlaced file page old (Done-is.Refused k) old
-  parts-refused old k e = refuses (pageFaults file page ++ partsFaults file (pageStrips file d) old) tt _ old (first-more _ (refused-told (pageFaults file page) (wholeOf file d) k (sym (ap openingOutcome e) ∙ p)))
+  parts-refused old k e = refuses (pageFaults file page ++ partsFaults file (pageStrips file d) old) tt _ old (first-more _ (refused-told (pageFaults file page) (wholeBy (tagsOf file d)) k (sym (ap openingOutcome e) ∙ p)))
 
   module _ (w : Whole) (e : o ≡ Opening-is.Page w) where
-    told : unless (pageFaults file page) (wholeOf file d) ≡ done w
+    told : unless (pageFaults file page) (wholeBy (tagsOf file d)) ≡ done w
     told = sym p ∙ ap openingOutcome e
 
-    whole-is : w ≡ wholeOf file d
-    whole-is = sym (done-value (pageFaults file page) (wholeOf file d) w told)
+    whole-is : w ≡ wholeBy (tagsOf file d)
+    whole-is = sym (done-value (pageFaults file page) (wholeBy (tagsOf file d)) w told)
 
     whole-sound : Sound (pageFaults file page)
-    whole-sound = done-sound (pageFaults file page) (wholeOf file d) w told
-
-    pub whole-there : StripsThere file (w .strips)
-    whole-there = rw whole-is (page-strips file page whole-sound)
+    whole-sound = done-sound (pageFaults file page) (wholeBy (tagsOf file d)) w told
 
     -- all strips
     pub all-strips : (r : Found) → foundOutcome r ≡ unless (stripsFaults file (w .strips)) (pageBy w) → DirectoryRead file page r

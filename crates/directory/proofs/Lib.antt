@@ -1,8 +1,6 @@
-pub mod Reading
-pub mod Seeking
 pub mod Turning
-pub mod Walking
-pub mod Saying
 pub mod Filling
 pub mod Laying
 pub mod Calls
+pub mod Determined
+pub mod Theorems

@@ -1,19 +1,13 @@
--- Strips of a plane: how many there are, and which of its plane's a strip is. Assumes nothing.
-use Prim.Native.Nat.{_%_, _*_, _+_, _-_, _/_, _<_, _≤_, suc, zero, ℕ}
+-- Which of its plane's a strip is, strip after strip. Assumes nothing.
+use Prim.Native.Nat.{_%_, _*_, _+_, _/_, _<_, _≤_, suc, zero, ℕ}
 use Rattle.answer.specs.Outcome.{pick}
 use Rattle.laws.proofs.Groups.{item-of}
 use borrow.Author.Tests.{eq-eqb, ne-eqb}
 use lib.Dec.{eqb}
 use mathlib.Core.Path.{_≡_, sym}
 use native.Mathlib.Decide.{decLt}
-use native.Mathlib.Nat.{add-mul, div-add-mod', div-lt-iff-lt-mul, mod-lt, mod-zero, mul-le-mul-left, mul-mod-left, mul-one, one-mul}
+use native.Mathlib.Nat.{add-mul, div-add-mod', mod-lt, mod-zero, mul-mod-left, one-mul}
 use native.Mathlib.Omega.{arith}
-
--- strips of a plane are no more than its rows
-pub few-strips : (rows each : ℕ) → 0 < each → (rows + (each - 1)) / each < rows + 1
-few-strips rows each h =
-    let some : 1 ≤ each = omega arith in
-    div-lt-iff-lt-mul {k = each} {x = rows + (each - 1)} {y = rows + 1} h .1 (omega (arith, add-mul rows 1 each, one-mul each, mul-le-mul-left rows some, mul-one rows))
 
 -- no strip comes later in its plane than in the page
 pub turn-within : (k per : ℕ) → k % per ≤ k

@@ -1,4 +1,2 @@
-pub mod Entries
-pub mod Tags
 pub mod Page
 pub mod Parts

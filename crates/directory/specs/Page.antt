@@ -1,4 +1,4 @@
--- A page: its layout, its strips and their faults (rules 14.9 and 14.10), and what the calls promise (14.11 to 14.14). Assumes nothing.
+-- A page: its layout, its strips and their faults (rules 14.10 and 14.11), and what the calls promise (14.12 to 14.15). Assumes nothing.
 use Prim.Native.Nat.{ℕ, _+_, _-_, _*_, _/_, _%_}
 use mathlib.Core.Path.{_≡_}
 use mathlib.Core.Bool.{Bool, not}
@@ -9,63 +9,21 @@ use Rattle.answer.specs.declared.Done.{Done}
 use Rattle.answer.specs.Outcome.{Outcome, done, refused, Fault, unless, invalid, truncated, outputTooSmall, number, pick, doneOutcome, Promise}
 use Rattle.answer.specs.Table.{table}
 use Rattle.laws.specs.Turns.{faultsBelow}
-use Rattle.layout.specs.declared.Fields.{Fields}
 use Rattle.layout.specs.Layout.{encodedWidth, planeChannels, layoutFaults, completed}
-use Rattle.directory.specs.declared.entries.Directory.{Directory}
-use Rattle.directory.specs.declared.shape.Shape.{Shape}
-use Rattle.directory.specs.declared.split.Split.{Split}
-use Rattle.directory.specs.declared.extras.Extras.{Extras}
+use Rattle.entries.specs.declared.Directory.{Directory}
+use Rattle.entries.specs.Entries.{directory, valueOf}
+use Rattle.tags.specs.declared.Tags.{Tags}
+use Rattle.tags.specs.Tags.{stripsPerPlane, tagsOf, tagFaults}
 use Rattle.directory.specs.declared.strips.Strips.{Strips}
 use Rattle.directory.specs.declared.Page.{Page}
 use Rattle.directory.specs.declared.Found.{Found}
 use Rattle.directory.specs.declared.Found.the-variants as Found-is
 use Rattle.directory.specs.declared.Place.{Place}
 use Rattle.directory.specs.declared.Place.the-variants as Place-is
-use Rattle.directory.specs.Entries.{directory, openFaults, valueOf}
-use Rattle.directory.specs.Tags.{shapeOf, splitOf, extrasOf, depthOf, isPalette, stripsPerPlane, shapeFaults, splitFaults, extrasFaults}
 
--- the layout
-abbrev pub sampleBytes : ℕ → ℕ
-sampleBytes depth = pick (eqb depth 16) 2 1
-
-abbrev pub samplesInByte : ℕ → ℕ
-samplesInByte depth = pick (eqb depth 1) 8 (pick (eqb depth 4) 2 1)
-
-unfoldable pub fieldsOf : Bool → Shape → Split → ℕ → Extras → Fields
-fieldsOf le s t depth x =
-    record {
-      w = s .width .value;
-      h = s .height .value;
-      ch = pick (isPalette s) 3 (t .samples .value);
-      bytes = sampleBytes depth;
-      slots = samplesInByte depth;
-      palette = isPalette s;
-      separate = eqb (t .planar .value) 2;
-      le = le;
-      white = eqb (s .photometric .value) 0;
-      alpha = x .extra .value;
-      map = pick (isPalette s) (x .map .place) 0;
-    }
-
--- what a directory says of the bits of a sample and of the layout
-abbrev pub depth : List ℕ → Directory → ℕ
-depth file d = depthOf file (d .le) (shapeOf file d .bits)
-
-abbrev pub pageFields : List ℕ → Directory → Fields
-pageFields file d = fieldsOf (d .le) (shapeOf file d) (splitOf file d) (depth file d) (extrasOf file d)
-
--- the used tags past 262; and all that a directory says: the used tags, ascending, and the layout
-abbrev pub laterFaults : List ℕ → Directory → List Fault
-laterFaults file d =
-    splitFaults (length file) (shapeOf file d) (splitOf file d)
-    ++ extrasFaults (length file) (shapeOf file d) (splitOf file d) (depth file d) (extrasOf file d)
-
-abbrev pub saidFaults : List ℕ → Directory → List Fault
-saidFaults file d = shapeFaults file (d .le) (shapeOf file d) ++ (laterFaults file d ++ layoutFaults (pageFields file d))
-
--- everything but the strips: the way to the directory, and what it says
+-- everything but the strips: the tags' faults, and the layout's
 unfoldable pub pageFaults : List ℕ → ℕ → List Fault
-pageFaults file page = openFaults file page ++ saidFaults file (directory file page)
+pageFaults file page = tagFaults file page ++ layoutFaults (tagsOf file (directory file page) .fields)
 
 -- the rows of strip k: fewer in the last of a plane
 abbrev pub smaller : ℕ → ℕ → ℕ
@@ -75,19 +33,19 @@ unfoldable pub stripRows : ℕ → ℕ → ℕ → ℕ
 stripRows rows each k = smaller each (rows - k % stripsPerPlane rows each * each)
 
 -- what strips are found by: 273 and 279, the rows of the page and of a strip, and the bytes of a row
-unfoldable pub stripsBy : Shape → Split → Fields → Strips
-stripsBy s t f =
+unfoldable pub stripsBy : Tags → Strips
+stripsBy t =
     record {
-      le = f .le;
+      le = t .fields .le;
       offsets = t .offsets;
       counts = t .counts;
-      rows = s .height .value;
-      each = t .rows .value;
-      row = encodedWidth f * planeChannels f;
+      rows = t .rows;
+      each = t .each;
+      row = encodedWidth (t .fields) * planeChannels (t .fields);
     }
 
 abbrev pub pageStrips : List ℕ → Directory → Strips
-pageStrips file d = stripsBy (shapeOf file d) (splitOf file d) (pageFields file d)
+pageStrips file d = stripsBy (tagsOf file d)
 
 abbrev pub stripPlace : List ℕ → Strips → ℕ → ℕ
 stripPlace file s k = valueOf file (s .le) (s .offsets) k
@@ -123,8 +81,8 @@ placeFaults file page k = pageFaults file page ++ oneFaults file (pageStrips fil
 abbrev pub pageOf : List ℕ → Directory → Page
 pageOf file d =
     record {
-      layout = completed (pageFields file d);
-      predictor = extrasOf file d .predictor .value;
+      layout = completed (tagsOf file d .fields);
+      predictor = tagsOf file d .predictor;
       strips = stripCount file d;
     }
 

@@ -4,16 +4,9 @@ use answer::Done;
 use answer::Refusal;
 use layout::RasterLayout;
 
-mod entries;
-mod extras;
-mod numbers;
 mod pages;
-mod shape;
-mod split;
 mod strips;
-mod walk;
 
-use numbers::wide;
 use pages::Opening;
 use pages::Whole;
 use pages::open_page;
@@ -26,7 +19,7 @@ use strips::place_of;
 ghost use mathlib.Core.Path.{_≡_};
 ghost use Rattle.answer.specs.Outcome.{unless};
 ghost use Rattle.directory.specs.Page.{stripsFaults, foundOutcome, DirectoryRead, StripPlaced, StripCut, StripsPlaced};
-ghost use Rattle.directory.specs.Parts.{StripsThere, pageBy, OnePlaced, PartsPlaced};
+ghost use Rattle.directory.specs.Parts.{pageBy, OnePlaced, PartsPlaced};
 
 // A page: its layout, how its rows were predicted (1: not; 2: by the sample before), and how many strips it has.
 pub struct Page {
@@ -47,19 +40,27 @@ pub enum Place {
     Refused(Refusal),
 }
 
+fn count_of(s: Strips) -> usize
+    ensures { λ r. ⌜ r ≡ s .offsets .count ⌝ }
+{
+    let n = s.offsets.count;
+    n as usize
+}
+
 fn page_by(w: Whole) -> Page
     ensures { λ r. ⌜ r ≡ pageBy w ⌝ }
 {
     let layout = w.layout;
+    let s = w.strips;
+    let strips = count_of(s);
     Page {
         layout,
-        predictor: wide(w.predictor),
-        strips: wide(w.strips.offsets.count),
+        predictor: w.predictor,
+        strips,
     }
 }
 
 fn read_strips(file: &[u8], w: Whole) -> Found
-    requires { ⌜ StripsThere (now file) (w .strips) ⌝ }
     ensures { λ r. ⌜ foundOutcome r ≡ unless (stripsFaults (now (file .entry)) (w .strips)) (pageBy w) ⌝ }
 {
     let s = w.strips;
@@ -80,7 +81,6 @@ pub fn read_directory(file: &[u8], page: usize) -> Found
 }
 
 fn one_strip(file: &[u8], s: Strips, k: usize) -> Place
-    requires { ⌜ StripsThere (now file) s ⌝ }
     ensures { λ r. ⌜ OnePlaced (now (file .entry)) s k r ⌝ }
 {
     let n = s.offsets.count;
@@ -90,7 +90,11 @@ fn one_strip(file: &[u8], s: Strips, k: usize) -> Place
     let j = k as u32;
     match check_strip(file, s, j) {
         Done::Refused(r) => Place::Refused(r),
-        Done::Done => Place::At(ByteAt(place_of(file, s, j)), length_of(file, s, j)),
+        Done::Done => {
+            let at = place_of(file, s, j) as usize;
+            let bytes = length_of(file, s, j) as usize;
+            Place::At(ByteAt(at), bytes)
+        }
     }
 }
 
@@ -122,13 +126,12 @@ pub fn strip(file: &[u8], page: usize, k: usize) -> &[u8]
 }
 
 fn place_strips(file: &[u8], s: Strips, parts: &mut [usize]) -> Done
-    requires { ⌜ StripsThere (now file) s ⌝ }
     ensures { λ r. ⌜ PartsPlaced (now (file .entry)) s (now (parts .entry)) r (now (parts .exit)) ⌝ }
 {
     match check_strips(file, s) {
         Done::Refused(k) => Done::Refused(k),
         Done::Done => {
-            if parts.len() < 2 * wide(s.offsets.count) {
+            if parts.len() < 2 * count_of(s) {
                 return Done::Refused(Refusal::OutputTooSmall);
             }
             fill_parts(file, s, parts);

@@ -1,21 +1,19 @@
 // A page's strips: where they stand, and what is wrong with one.
-use crate::entries::Field;
-use crate::numbers::number;
-use crate::numbers::past;
-use crate::split::strips_per_plane;
 use answer::Done;
 use answer::Refusal;
 use answer::fault;
 use answer::first_of;
+use entries::Field;
+use entries::value;
+use tags::strips_per_plane;
 ghost use mathlib.Core.Path.{_≡_};
 ghost use Prim.Native.Nat.{_+_, _-_, _*_, _%_, _≤_, _<_};
 ghost use lib.ListN.{length};
 ghost use lib.Dec.{eqb};
 ghost use Rattle.answer.specs.Outcome.{pick, Step};
 ghost use Rattle.answer.specs.Table.{filled};
-ghost use Rattle.laws.specs.Turns.{faultsBelow};
-ghost use Rattle.directory.specs.Page.{smaller, stripPlace, stripLength, stripFaults, partNumber};
-ghost use Rattle.directory.specs.Parts.{StripsThere, Turn};
+ghost use Rattle.tags.specs.Tags.{stripsPerPlane};
+ghost use Rattle.directory.specs.Page.{smaller, stripPlace, stripLength, stripFaults, stripsFaults, partNumber};
 
 // What strips are found by: their places and lengths, the rows of the page and of a strip, and the bytes of a row.
 pub(crate) struct Strips {
@@ -51,31 +49,31 @@ fn times(a: u32, b: u32) -> usize
 }
 
 // Where a strip begins.
-pub(crate) fn place_of(file: &[u8], s: Strips, k: u32) -> usize
-    requires { ⌜ (StripsThere (now file) s) × (k < s .offsets .count) ⌝ }
+pub(crate) fn place_of(file: &[u8], s: Strips, k: u32) -> u32
     ensures { λ r. ⌜ r ≡ stripPlace (now (file .entry)) s k ⌝ }
 {
-    number(file, s.le, s.offsets, k) as usize
+    let offsets = s.offsets;
+    value(file, s.le, offsets, k)
 }
 
-pub(crate) fn length_of(file: &[u8], s: Strips, k: u32) -> usize
-    requires { ⌜ (StripsThere (now file) s) × (k < s .offsets .count) ⌝ }
+pub(crate) fn length_of(file: &[u8], s: Strips, k: u32) -> u32
     ensures { λ r. ⌜ r ≡ stripLength (now (file .entry)) s k ⌝ }
 {
-    number(file, s.le, s.counts, k) as usize
+    let counts = s.counts;
+    value(file, s.le, counts, k)
 }
 
 // Strip k, which is the turn-th of its plane.
 fn check_turn(file: &[u8], s: Strips, k: u32, turn: u32) -> Done
-    requires { ⌜ Turn (now file) s k turn ⌝ }
+    requires { ⌜ turn ≡ k % stripsPerPlane (s .rows) (s .each) ⌝ }
     ensures { λ r. ⌜ Step (stripFaults (now (file .entry)) s k) r ⌝ }
 {
-    let at = place_of(file, s, k);
-    let bytes = length_of(file, s, k);
+    let at = place_of(file, s, k) as usize;
+    let bytes = length_of(file, s, k) as usize;
     let right = times(rows_at(s.rows, s.each, turn), s.row);
     first_of(
         fault(bytes != right, Refusal::Invalid),
-        fault(past(file.len(), at, bytes), Refusal::Truncated),
+        fault(file.len() < at + bytes, Refusal::Truncated),
     )
 }
 
@@ -89,7 +87,6 @@ fn rest(k: u32, per: u32) -> u32
 }
 
 pub(crate) fn check_strip(file: &[u8], s: Strips, k: u32) -> Done
-    requires { ⌜ (StripsThere (now file) s) × (k < s .offsets .count) ⌝ }
     ensures { λ r. ⌜ Step (stripFaults (now (file .entry)) s k) r ⌝ }
 {
     let turn = rest(k, strips_per_plane(s.rows, s.each));
@@ -109,8 +106,7 @@ fn next_turn(turn: u32, per: u32) -> u32
 }
 
 pub(crate) fn check_strips(file: &[u8], s: Strips) -> Done
-    requires { ⌜ StripsThere (now file) s ⌝ }
-    ensures { λ r. ⌜ Step (faultsBelow (s .offsets .count) (stripFaults (now (file .entry)) s)) r ⌝ }
+    ensures { λ r. ⌜ Step (stripsFaults (now (file .entry)) s) r ⌝ }
 {
     let n = s.offsets.count;
     let per = strips_per_plane(s.rows, s.each);
@@ -129,15 +125,15 @@ pub(crate) fn check_strips(file: &[u8], s: Strips) -> Done
 
 // Every strip's place and length, by turns.
 pub(crate) fn fill_parts(file: &[u8], s: Strips, parts: &mut [usize])
-    requires { ⌜ (StripsThere (now file) s) × (2 * s .offsets .count ≤ length (now parts)) ⌝ }
+    requires { ⌜ 2 * s .offsets .count ≤ length (now parts) ⌝ }
     ensures { λ r. ⌜ now (parts .exit) ≡ filled (2 * s .offsets .count) (partNumber (now (file .entry)) s) (now (parts .entry)) ⌝ }
 {
     let n = s.offsets.count;
     let mut k: u32 = 0;
     let mut at: usize = 0;
     while k < n {
-        parts[at + 0] = place_of(file, s, k);
-        parts[at + 1] = length_of(file, s, k);
+        parts[at + 0] = place_of(file, s, k) as usize;
+        parts[at + 1] = length_of(file, s, k) as usize;
         at += 2;
         k += 1;
     }

@@ -1,8 +1,8 @@
 -- `directory::one_strip` meets its contract: the number, then the strip's own faults. Assumes nothing.
 use Rattle.answer.proofs.Promised.{finishing, refusing, step-first, step-sound}
 use Rattle.answer.specs.Outcome.{Fault, here, later, next}
-use Rattle.directory.specs.Entries.{place}
 use Rattle.directory.specs.Page.{oneFaults}
+use Rattle.entries.specs.Entries.{place}
 use borrow.Author.Needs.{needs}
 use borrow.Author.Tests.{le-leb, lt-leb}
 use denote.Ref.{now}
@@ -27,11 +27,13 @@ one-strip-spec =
     (λ c. search needs)
     (λ c. let start = c .before .before in refusing (faults start) _ (here (le-leb _ _ (c .if1 .taken))))
     (λ c. search needs)
-    (λ c κs. (c .before .before .pre, omega (arith, c .if1 .left)))
+    (λ c κs. search needs)
     (λ c. search needs)
     (λ c. search needs)
-    (λ c κs. let test = c .before .before .before in (test .before .before .pre, omega (arith, test .if1 .left)))
-    (λ c κs. let test = c .before .before .before .before in (test .before .before .pre, omega (arith, test .if1 .left)))
+    (λ c κs. search needs)
+    (λ c. search needs)
+    (λ c κs. search needs)
+    (λ c. search needs)
     (λ c.
     let told = c .before in
     let check = told .before .before in

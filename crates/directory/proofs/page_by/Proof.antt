@@ -8,5 +8,4 @@ page-by-spec =
     tie.close
     (tie.spec
     (λ c κs. search needs)
-    (λ c κs. search needs)
-    (λ c. rw (c .before .wide .ensures, c .wide2 .ensures)))
+    (λ c. rw (c .count-of .ensures)))

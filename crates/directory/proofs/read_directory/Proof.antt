@@ -1,5 +1,5 @@
 -- `directory::read_directory` meets its contract: past the page's faults its strips'. Assumes nothing.
-use Rattle.directory.proofs.Calls.{all-strips, page-refused, whole-there}
+use Rattle.directory.proofs.Calls.{all-strips, page-refused}
 use borrow.Author.Needs.{needs}
 use denote.Ref.{now}
 use Rattle.directory.proofs.read_directory.Statement.{statement}
@@ -12,11 +12,7 @@ read-directory-spec =
     (λ c κs. search needs)
     (λ c. search needs)
     (λ c. search needs)
-    (λ c κs.
-    let told = c .before in
-    let opened = told .before .before in
-    let args = opened .before .before .args in
-    whole-there (now (args .file)) (args .page) (opened .open-page .result) (opened .open-page .ensures) _ (told .w .given .1))
+    (λ c κs. search needs)
     (λ c.
     let told = c .before in
     let opened = told .before .before in

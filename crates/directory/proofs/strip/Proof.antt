@@ -1,7 +1,7 @@
 -- `directory::strip` meets its contract: the part that strip_place says. Assumes nothing.
 use Prim.Native.Nat.{_+_, _-_, _≤_}
 use Rattle.directory.proofs.Calls.{a-part, inside, no-part}
-use Rattle.directory.specs.Entries.{place}
+use Rattle.entries.specs.Entries.{place}
 use borrow.Author.Needs.{needs}
 use denote.Ref.{now}
 use lib.ListN.{length}

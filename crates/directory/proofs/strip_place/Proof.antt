@@ -1,5 +1,5 @@
 -- `directory::strip_place` meets its contract: past the page's faults the strip's. Assumes nothing.
-use Rattle.directory.proofs.Calls.{one-place, page-refused, whole-there}
+use Rattle.directory.proofs.Calls.{one-place, page-refused}
 use borrow.Author.Needs.{needs}
 use denote.Ref.{now}
 use Rattle.directory.proofs.strip_place.Statement.{statement}
@@ -12,11 +12,7 @@ strip-place-spec =
     (λ c κs. search needs)
     (λ c. search needs)
     (λ c. search needs)
-    (λ c κs.
-    let known = c .before in
-    let opening = known .before .before .before in
-    let args = opening .before .before .args in
-    whole-there (now (args .file)) (args .page) (opening .open-page .result) (opening .open-page .ensures) _ (known .before .w .given .1))
+    (λ c κs. search needs)
     (λ c.
     let told = c .before in
     let opening = told .before .before in

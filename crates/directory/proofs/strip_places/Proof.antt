@@ -1,6 +1,6 @@
 -- `directory::strip_places` meets its contract: past the page's faults its strips', then the buffer's. Assumes nothing.
 use Rattle.answer.specs.Table.{filled}
-use Rattle.directory.proofs.Calls.{all-places, parts-refused, whole-there}
+use Rattle.directory.proofs.Calls.{all-places, parts-refused}
 use borrow.Author.Needs.{needs}
 use denote.Ref.{now}
 use Rattle.directory.proofs.strip_places.Statement.{statement}
@@ -13,11 +13,7 @@ strip-places-spec =
     (λ c κs. search needs)
     (λ c. search needs)
     (λ c. search needs)
-    (λ c κs.
-    let known = c .before .before in
-    let opened = known .before .before .before in
-    let args = opened .before .before .before .args in
-    whole-there (now (args .file)) (args .page) (opened .open-page .result) (opened .open-page .ensures) _ (known .before .w .given .1))
+    (λ c κs. search needs)
     (λ c.
     let told = c .before in
     let opened = told .before .before in

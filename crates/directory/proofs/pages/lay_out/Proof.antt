@@ -13,11 +13,11 @@ lay-out-spec =
     (λ c κs. search needs)
     (λ c. search needs)
     (λ c. search needs)
-    (λ c κs. let told = c .before in let check = told .before .before in laid-small (check .before .args .f) _ (laid (check .before .args .f) _ _ (check .check-layout .ensures) (told .l .given .1)))
-    (λ c. let told = c .before in let check = told .before .before in refusing (layoutFaults (check .before .args .f)) _ (unlaid (check .before .args .f) _ _ (check .check-layout .ensures) (told .k .given .1)))
+    (λ c κs. let told = c .before in let check = told .before .before in let f = check .before .before .args .t .fields in laid-small f _ (laid f (check .check-layout .result) _ (check .check-layout .ensures) (told .l .given .1)))
+    (λ c. let told = c .before in let check = told .before .before in let f = check .before .before .args .t .fields in refusing (layoutFaults f) _ (unlaid f (check .check-layout .result) _ (check .check-layout .ensures) (told .k .given .1)))
     (λ c.
     let told = c .before .before in
     let check = told .before .before in
-    let f = check .before .args .f in
-    let is = laid f _ _ (check .check-layout .ensures) (told .l .given .1) in
+    let f = check .before .before .args .t .fields in
+    let is = laid f (check .check-layout .result) _ (check .check-layout .ensures) (told .l .given .1) in
     rw (c .strips-by .ensures, is .0) (finishing (layoutFaults f) _ (is .1))))

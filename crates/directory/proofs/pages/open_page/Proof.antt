@@ -1,5 +1,5 @@
--- `directory::pages::open_page` meets its contract: the way to the directory, then what it says. Assumes nothing.
-use Rattle.directory.proofs.Laying.{page-opened, page-room, page-unopened}
+-- `directory::pages::open_page` meets its contract: the tags' faults, then the layout's. Assumes nothing.
+use Rattle.directory.proofs.Laying.{tags-laid, tags-refused}
 use borrow.Author.Needs.{needs}
 use denote.Ref.{now}
 use Rattle.directory.proofs.pages.open_page.Statement.{statement}
@@ -12,18 +12,14 @@ open-page-spec =
     (λ c κs. search needs)
     (λ c. search needs)
     (λ c. search needs)
-    (λ c κs.
-    let told = c .before in
-    let opened = told .before .before in
-    let args = opened .before .before .args in
-    page-room (now (args .file)) (args .page) (opened .«open» .result) (opened .«open» .ensures) _ (told .d .given .1))
+    (λ c κs. search needs)
     (λ c.
     let told = c .before in
-    let opened = told .before .before in
-    let args = opened .before .before .args in
-    page-unopened (now (args .file)) (args .page) (opened .«open» .result) (opened .«open» .ensures) _ (told .k .given .1))
+    let read = told .before .before in
+    let args = read .before .before .args in
+    tags-refused (now (args .file)) (args .page) (read .read-tags .result) (read .read-tags .ensures) _ (told .k .given .1))
     (λ c.
     let told = c .before .before in
-    let opened = told .before .before in
-    let args = opened .before .before .args in
-    page-opened (now (args .file)) (args .page) (opened .«open» .result) (opened .«open» .ensures) _ (told .d .given .1) (c .read-page .result) (c .read-page .ensures)))
+    let read = told .before .before in
+    let args = read .before .before .args in
+    tags-laid (now (args .file)) (args .page) (read .read-tags .result) (read .read-tags .ensures) _ (c .lay-out .result) (told .t .given .1) (c .lay-out .ensures)))

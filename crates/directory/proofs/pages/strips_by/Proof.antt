@@ -11,8 +11,7 @@ returns : tie.Need-returns
 unfolding stripsBy
 returns c =
     let start = c .before .before .before in
-    let l = start .args .l in
-    let is : l .«encoded_width» * l .«plane_channels» ≡ encodedWidth (l .fields) * planeChannels (l .fields) = ap (λ (r : RasterLayout). r .«encoded_width» * r .«plane_channels») (start .pre .0) in
+    let is : start .args .l .«encoded_width» * start .args .l .«plane_channels» ≡ encodedWidth (start .args .t .fields) * planeChannels (start .args .t .fields) = ap (λ (r : RasterLayout). r .«encoded_width» * r .«plane_channels») (start .pre .0) in
     rw (c .row-bytes .ensures, is)
 
 pub strips-by-spec : {M : Type 1} → statement M

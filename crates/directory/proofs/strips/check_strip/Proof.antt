@@ -9,5 +9,5 @@ check-strip-spec =
     (tie.spec
     (λ c κs. search needs)
     (λ c κs. search needs)
-    (λ c κs. let per = c .before in let start = per .before .before in record { there = start .pre .0; below = start .pre .1; is = rw (per .strips-per-plane .ensures) at (c .rest .ensures) })
+    (λ c κs. rw (c .before .strips-per-plane .ensures) at (c .rest .ensures))
     (λ c. search needs))

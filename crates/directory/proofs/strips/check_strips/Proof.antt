@@ -4,9 +4,9 @@ use Rattle.answer.proofs.Promised.{finishing, passed, refusing, step-first, ste
 use Rattle.answer.specs.Outcome.{Sound, none}
 use Rattle.directory.proofs.Turning.{turn-on, turn-within}
 use Rattle.directory.specs.Page.{stripFaults}
-use Rattle.directory.specs.Tags.{stripsPerPlane}
 use Rattle.laws.proofs.Turns.{turn-first, turns-more}
 use Rattle.laws.specs.Turns.{faultsBelow}
+use Rattle.tags.specs.Tags.{stripsPerPlane}
 use borrow.Author.Needs.{needs}
 use denote.Ref.{now}
 use mathlib.Core.Path.{_≡_, sym}
@@ -29,7 +29,7 @@ check-strips-spec =
     μ-loop
     (λ c κs. search needs)
     (λ c. (omega arith, (sym (zero-mod _), none)))
-    (λ c κs. let loop = c .before in record { there = loop .before .before .before .pre; below = c .loop-test .taken; is = loop .loop .inv .1 .0 })
+    (λ c κs. c .before .loop .inv .1 .0)
     (λ c. search needs)
     (λ c.
     let told = c .before in

@@ -1,8 +1,8 @@
 -- `directory::strips::fill_parts` meets its contract: two numbers a turn. Assumes nothing.
 use Prim.Native.Nat.{_*_, _+_, _-_, _≤_}
 use Rattle.directory.proofs.Filling.{length-number, parts-more, place-number}
-use Rattle.directory.specs.Entries.{place}
 use Rattle.directory.specs.Page.{partNumber}
+use Rattle.entries.specs.Entries.{place}
 use Rattle.laws.proofs.Lists.{FilledTo, filled-none}
 use borrow.Author.Needs.{needs}
 use denote.Ref.{now}
@@ -25,15 +25,17 @@ fill-parts-spec =
     Inv-loop
     μ-loop
     (λ c. (omega arith, (refl, filled-none _ _)))
-    (λ c κs. (c .before .before .before .before .pre .0, c .loop-test .taken))
+    (λ c κs. search needs)
     (λ c. search needs)
     (λ c. search needs)
-    (λ c. let turn = c .before in let loop = turn .before in omega (arith, loop .loop .inv .1 .0, loop .before .before .before .pre .1, turn .loop-test .taken, loop .loop .inv .1 .1 .same))
-    (λ c κs. let turn = c .before in (turn .before .before .before .before .pre .0, turn .loop-test .taken))
+    (λ c. search needs)
+    (λ c. let turn = c .before in let loop = turn .before in omega (arith, loop .loop .inv .1 .0, loop .before .before .before .pre, turn .loop-test .taken, loop .loop .inv .1 .1 .same))
+    (λ c κs. search needs)
     (λ c. search needs)
     (λ c. search needs)
-    (λ c. let place = c .before in let turn = place .before in let loop = turn .before in omega (arith, loop .loop .inv .1 .0, loop .before .before .before .pre .1, turn .loop-test .taken, loop .loop .inv .1 .1 .same, length-set (loop .loop .parts) (loop .loop .at + 0) (place .place-of .result)))
-    (λ c. let loop = c .before .before .before in omega (arith, loop .loop .inv .1 .0, loop .before .before .before .pre .1))
+    (λ c. search needs)
+    (λ c. let place = c .before in let turn = place .before in let loop = turn .before in omega (arith, loop .loop .inv .1 .0, loop .before .before .before .pre, turn .loop-test .taken, loop .loop .inv .1 .1 .same, length-set (loop .loop .parts) (loop .loop .at + 0) (place .place-of .result)))
+    (λ c. let loop = c .before .before .before in omega (arith, loop .loop .inv .1 .0, loop .before .before .before .pre))
     (λ c. search needs)
     (λ c. search needs)
     (λ c.
@@ -43,7 +45,7 @@ fill-parts-spec =
     let file = now (start .args .file) in
     let s = start .args .s in
     let k = loop .loop .k in
-    (omega arith, (omega (arith, loop .loop .inv .1 .0), parts-more (partNumber file s) _ _ k (loop .loop .at) _ _ (loop .loop .inv .1 .1) (loop .loop .inv .1 .0) (omega (arith, start .pre .1, place .before .loop-test .taken)) (place .place-of .ensures ∙ sym (place-number file s k)) (c .length-of .ensures ∙ sym (length-number file s k)))))
+    (omega arith, (omega (arith, loop .loop .inv .1 .0), parts-more (partNumber file s) _ _ k (loop .loop .at) _ _ (loop .loop .inv .1 .1) (loop .loop .inv .1 .0) (omega (arith, start .pre, place .before .loop-test .taken)) (place .place-of .ensures ∙ sym (place-number file s k)) (c .length-of .ensures ∙ sym (length-number file s k)))))
     (λ c. search needs)
     (λ c.
     let loop = c .before in

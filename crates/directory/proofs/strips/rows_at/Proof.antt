@@ -1,7 +1,7 @@
 -- `directory::strips::rows_at` meets its contract: fewer in the last strip. Assumes nothing.
 use Prim.Native.Nat.{_*_, _-_}
 use Rattle.answer.specs.Outcome.{none}
-use Rattle.directory.proofs.Reading.{wide-product}
+use Rattle.tags.proofs.Sizes.{wide-product}
 use borrow.Author.Needs.{needs}
 use borrow.Author.Tests.{le-ltb, lt-ltb}
 use mathlib.Core.Path.{_≡_}

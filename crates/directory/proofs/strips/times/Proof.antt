@@ -1,5 +1,5 @@
 -- `directory::strips::times` meets its contract: no product of two numbers of 32 bits wraps. Assumes nothing.
-use Rattle.directory.proofs.Reading.{wide-product}
+use Rattle.tags.proofs.Sizes.{wide-product}
 use borrow.Author.Needs.{needs}
 use mathlib.Core.Path.{refl}
 use Rattle.directory.proofs.strips.times.Statement.{statement}

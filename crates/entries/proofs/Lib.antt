@@ -1,0 +1,3 @@
+pub mod Seeking
+pub mod Walking
+pub mod Determined
