@@ -24,6 +24,9 @@ use Rattle.pixels.specs.Render.{Rendered}
 use Rattle.pixels.specs.Planes.{Written}
 use Rattle.rendering.proofs.Determined.{render-determined}
 use Rattle.writing.proofs.Determined.{write-planes-determined}
+use Rattle.directory.specs.Page.{DirectoryRead, StripPlaced, StripsPlaced}
+use Rattle.directory.proofs.Determined.{read-directory-determined, strip-place-determined, strip-places-determined}
+use Rattle.capi.specs.OnPages.{foundNumbers, placeNumbers}
 use Rattle.capi.specs.Told.{status, lent, derivedOutcome, Told, Lent}
 use Rattle.capi.specs.OnLayouts.{fieldsOf, flagged, OnLayout, RefusedUnserved}
 
@@ -69,6 +72,16 @@ module _ (r s : ℕ) where
 
   pub hamrisk-commit-determined : (source old x y : List ℕ) → Told doneOutcome (λ d. Committed source old d x) r → Told doneOutcome (λ d. Committed source old d y) s → (r ≡ s) × (x ≡ y)
   hamrisk-commit-determined source old x y = told-once (λ a b. commit-uninit-determined source old a b x y)
+
+  module _ (file : List ℕ) (page : ℕ) where
+    pub hamrisk-directory-determined : (old v w : List ℕ) → Lent foundNumbers (DirectoryRead file page) r old v → Lent foundNumbers (DirectoryRead file page) s old w → (r ≡ s) × (v ≡ w)
+    hamrisk-directory-determined old v w t u = lent-once (λ a b p q. (read-directory-determined file page a b p q, tt {0})) t u .0
+
+    pub hamrisk-strip-determined : (k : ℕ) (old v w : ℕ × ℕ) → Lent placeNumbers (StripPlaced file page k) r old v → Lent placeNumbers (StripPlaced file page k) s old w → (r ≡ s) × (v ≡ w)
+    hamrisk-strip-determined k old v w t u = lent-once (λ a b p q. (strip-place-determined file page k a b p q, tt {0})) t u .0
+
+    pub hamrisk-strips-determined : (old x y : List ℕ) → Told doneOutcome (λ d. StripsPlaced file page old d x) r → Told doneOutcome (λ d. StripsPlaced file page old d y) s → (r ≡ s) × (x ≡ y)
+    hamrisk-strips-determined old x y = told-once (λ a b. strip-places-determined file page old a b x y)
 
   module _ (layout : List ℕ) where
     on-once : {A : Type 0} {old x y : A} {P Q : Fields → Type 0} → ((f : Fields) → P f → Q f → (r ≡ s) × (x ≡ y)) → OnLayout layout P (RefusedUnserved r old x) → OnLayout layout Q (RefusedUnserved s old y) → (r ≡ s) × (x ≡ y)
