@@ -1,4 +1,4 @@
--- The used tags (rules 14.7 to 14.9): of each its values and its contradictions with lower tags, and what they say together. Assumes nothing.
+-- The used tags (rules 14.7 to 14.10): of each its values and its contradictions with lower tags, and what they say together. Assumes nothing.
 use Prim.Native.Nat.{ℕ, _+_, _-_, _*_, _/_}
 use mathlib.Core.Path.{_≡_}
 use mathlib.Core.Bool.{Bool, true, false, not, _&&_, _||_}
