@@ -26,14 +26,7 @@ one-strip-spec =
     (tie.spec
     (λ c. search needs)
     (λ c. let start = c .before .before in refusing (faults start) _ (here (le-leb _ _ (c .if1 .taken))))
-    (λ c. search needs)
-    (λ c κs. search needs)
-    (λ c. search needs)
-    (λ c. search needs)
-    (λ c κs. search needs)
-    (λ c. search needs)
-    (λ c κs. search needs)
-    (λ c. search needs)
+    (λ c. search needs) (λ c κs. search needs) (λ c. search needs) (λ c. search needs) (λ c κs. search needs) (λ c. search needs) (λ c κs. search needs) (λ c. search needs)
     (λ c.
     let told = c .before in
     let check = told .before .before in

@@ -26,11 +26,7 @@ pub place-strips-spec : {M : Type 1} → statement M
 place-strips-spec =
     tie.close
     (tie.spec
-    (λ c κs. search needs)
-    (λ c. search needs)
-    (λ c. search needs)
-    (λ c κs. search needs)
-    (λ c. search needs)
+    (λ c κs. search needs) (λ c. search needs) (λ c. search needs) (λ c κs. search needs) (λ c. search needs)
     (λ c.
     let told = c .before .before in
     let s = start (told .before .before) in

@@ -9,10 +9,7 @@ pub read-directory-spec : {M : Type 1} → statement M
 read-directory-spec =
     tie.close
     (tie.spec
-    (λ c κs. search needs)
-    (λ c. search needs)
-    (λ c. search needs)
-    (λ c κs. search needs)
+    (λ c κs. search needs) (λ c. search needs) (λ c. search needs) (λ c κs. search needs)
     (λ c.
     let told = c .before in
     let opened = told .before .before in

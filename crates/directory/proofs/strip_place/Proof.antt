@@ -9,10 +9,7 @@ pub strip-place-spec : {M : Type 1} → statement M
 strip-place-spec =
     tie.close
     (tie.spec
-    (λ c κs. search needs)
-    (λ c. search needs)
-    (λ c. search needs)
-    (λ c κs. search needs)
+    (λ c κs. search needs) (λ c. search needs) (λ c. search needs) (λ c κs. search needs)
     (λ c.
     let told = c .before in
     let opening = told .before .before in

@@ -10,10 +10,7 @@ pub strip-places-spec : {M : Type 1} → statement M
 strip-places-spec =
     tie.close
     (tie.spec
-    (λ c κs. search needs)
-    (λ c. search needs)
-    (λ c. search needs)
-    (λ c κs. search needs)
+    (λ c κs. search needs) (λ c. search needs) (λ c. search needs) (λ c κs. search needs)
     (λ c.
     let told = c .before in
     let opened = told .before .before in

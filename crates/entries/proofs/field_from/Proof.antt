@@ -41,12 +41,7 @@ pub field-from-spec : {M : Type 1} → statement M
 field-from-spec =
     tie.close
     (tie.spec
-    (λ c. search needs)
-    (λ c. search needs)
-    (λ c. search needs)
-    (λ c. search needs)
-    (λ c. search needs)
-    (λ c κs. search needs)
+    (λ c. search needs) (λ c. search needs) (λ c. search needs) (λ c. search needs) (λ c. search needs) (λ c κs. search needs)
     returns
     (λ c κs. omega (arith, c .if1 .left))
     (λ c κs. omega (arith, c .before .if1 .left))

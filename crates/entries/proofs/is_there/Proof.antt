@@ -8,7 +8,6 @@ pub is-there-spec : {M : Type 1} → statement M
 is-there-spec =
     tie.close
     (tie.spec
-    (λ c. search needs)
-    (λ c κs. search needs)
+    (λ c. search needs) (λ c κs. search needs)
     (λ c. let arm = c .before in rw (lt-ltb _ _ (arm .if1 .taken), c .tag-at .ensures))
     (λ c. rw (le-ltb _ _ (c .if1 .left))))

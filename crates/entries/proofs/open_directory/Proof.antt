@@ -22,9 +22,7 @@ pub open-directory-spec : {M : Type 1} → statement M
 open-directory-spec =
     tie.close
     (tie.spec
-    (λ c κs. search needs)
-    (λ c. search needs)
-    (λ c. search needs)
+    (λ c κs. search needs) (λ c. search needs) (λ c. search needs)
     (λ c κs. let check = c .before .before in let args = check .before .before .args in omega (arith, header-read (now (args .file)) (args .page) (step-sound (check .check-header .ensures) (c .enum-told .given .1))))
     (λ c κs. let told = c .before in let check = told .before .before in let args = check .before .before .args in header-read (now (args .file)) (args .page) (step-sound (check .check-header .ensures) (told .enum-told .given .1)))
     (λ c.

@@ -48,7 +48,6 @@ seek-spec =
     (λ c. refl)
     (λ c κs. (c .loop-test .taken, c .before .before .before .before .pre))
     returns
-    (λ c. search needs)
-    (λ c. search needs)
+    (λ c. search needs) (λ c. search needs)
     loop-again
     returns-2)

@@ -9,8 +9,6 @@ pub value-at-spec : {M : Type 1} → statement M
 value-at-spec =
     tie.close
     (tie.spec
-    (λ c κs. search needs)
-    (λ c. search needs)
-    (λ c κs. search needs)
+    (λ c κs. search needs) (λ c. search needs) (λ c κs. search needs)
     (λ c. let args = c .before .before .before .args in rw (eq-eqb _ 3 (c .before .if1 .taken), add-zero (args .inside)) (c .short .ensures))
     (λ c. let args = c .before .before .before .args in rw (ne-eqb _ 3 (c .before .if1 .left), add-zero (args .inside)) (c .long .ensures)))

@@ -9,7 +9,6 @@ pub values-at-spec : {M : Type 1} → statement M
 values-at-spec =
     tie.close
     (tie.spec
-    (λ c κs. search needs)
-    (λ c. search needs)
+    (λ c κs. search needs) (λ c. search needs)
     (λ c. rw (le-leb _ 4 (c .if1 .taken)))
     (λ c. let args = c .before .before .before .args in rw (lt-leb (args .bytes) 4 (omega (arith, c .before .if1 .left))) (c .long .ensures)))

@@ -29,10 +29,7 @@ pub read-directory-spec : {M : Type 1} → statement M
 read-directory-spec =
     tie.close
     (tie.spec
-    (λ c κs. search needs)
-    (λ c κs. search needs)
-    (λ c. search needs)
-    (λ c. search needs)
+    (λ c κs. search needs) (λ c κs. search needs) (λ c. search needs) (λ c. search needs)
     (λ c κs. let shape = c .before .before .before in record { room = shape .before .before .pre; is = shape .read-shape .ensures })
     returns
     returns-2)

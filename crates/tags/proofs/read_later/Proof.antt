@@ -30,13 +30,7 @@ read-later-spec =
     (tie.spec
     (λ c κs. let start = c .before in rw (start .pre .is) (from-shape (now (start .args .file)) (start .args .d) (start .pre .room)))
     (λ c κs. let s = start c in rw (c .read-split .ensures) (from-split (now (s .args .file)) (s .args .d) (s .pre .room)))
-    (λ c κs. search needs)
-    (λ c κs. search needs)
-    (λ c κs. search needs)
-    (λ c κs. search needs)
-    (λ c. search needs)
-    (λ c. search needs)
-    (λ c κs. search needs)
+    (λ c κs. search needs) (λ c κs. search needs) (λ c κs. search needs) (λ c κs. search needs) (λ c. search needs) (λ c. search needs) (λ c κs. search needs)
     (λ c.
     let told = c .before in
     let both = told .before .before in

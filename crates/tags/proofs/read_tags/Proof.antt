@@ -13,9 +13,7 @@ pub read-tags-spec : {M : Type 1} → statement M
 read-tags-spec =
     tie.close
     (tie.spec
-    (λ c κs. search needs)
-    (λ c. search needs)
-    (λ c. search needs)
+    (λ c κs. search needs) (λ c. search needs) (λ c. search needs)
     (λ c κs.
     let told = c .before in
     let opened = told .before .before in

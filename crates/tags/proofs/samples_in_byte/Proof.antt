@@ -7,6 +7,5 @@ pub samples-in-byte-spec : {M : Type 1} → statement M
 samples-in-byte-spec =
     tie.close
     (tie.spec
-    (λ c κs. search needs)
-    (λ c κs. search needs)
+    (λ c κs. search needs) (λ c κs. search needs)
     (λ c. rw (c .choose2 .ensures, c .before .choose .ensures)))

@@ -21,8 +21,6 @@ strips-per-plane-spec =
     tie.close
     (tie.spec
     returns
-    (λ c. search needs)
-    (λ c. search needs)
-    (λ c. search needs)
+    (λ c. search needs) (λ c. search needs) (λ c. search needs)
     (λ c. omega (arith, few-strips (c .before .args .rows) (c .before .args .each) (omega arith)))
     returns-2)

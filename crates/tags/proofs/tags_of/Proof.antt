@@ -12,6 +12,5 @@ pub tags-of-spec : {M : Type 1} → statement M
 tags-of-spec =
     tie.close
     (tie.spec
-    (λ c κs. search needs)
-    (λ c κs. search needs)
+    (λ c κs. search needs) (λ c κs. search needs)
     returns)

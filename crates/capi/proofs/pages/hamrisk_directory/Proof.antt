@@ -10,10 +10,6 @@ pub hamrisk-directory-spec : {M : Type 1} → statement M
 hamrisk-directory-spec =
     tie.close
     (tie.spec
-    (λ c κs. search needs)
-    (λ c. search needs)
-    (λ c κs. search needs)
-    (λ c. search needs)
-    (λ c κs. search needs)
+    (λ c κs. search needs) (λ c. search needs) (λ c κs. search needs) (λ c. search needs) (λ c κs. search needs)
     (λ c. telling (c .before .before .kind .given .1) (c .before .before .before .before .read-directory .ensures) (c .number .ensures) refl)
     (λ c. telling (c .before .before .p .given .1) (c .before .before .before .before .read-directory .ensures) (omega arith) (c .numbers-of .ensures)))

@@ -10,9 +10,6 @@ pub hamrisk-strip-spec : {M : Type 1} → statement M
 hamrisk-strip-spec =
     tie.close
     (tie.spec
-    (λ c κs. search needs)
-    (λ c. search needs)
-    (λ c κs. search needs)
-    (λ c. search needs)
+    (λ c κs. search needs) (λ c. search needs) (λ c κs. search needs) (λ c. search needs)
     (λ c. telling (c .before .before .kind .given .1) (c .before .before .before .before .strip-place .ensures) (c .number .ensures) refl)
     (λ c. telling (c .before .at .given .1) (c .before .before .before .strip-place .ensures) (omega arith) refl))

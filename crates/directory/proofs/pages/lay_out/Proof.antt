@@ -10,9 +10,7 @@ pub lay-out-spec : {M : Type 1} → statement M
 lay-out-spec =
     tie.close
     (tie.spec
-    (λ c κs. search needs)
-    (λ c. search needs)
-    (λ c. search needs)
+    (λ c κs. search needs) (λ c. search needs) (λ c. search needs)
     (λ c κs. let told = c .before in let check = told .before .before in let f = check .before .before .args .t .fields in laid-small f _ (laid f (check .check-layout .result) _ (check .check-layout .ensures) (told .l .given .1)))
     (λ c. let told = c .before in let check = told .before .before in let f = check .before .before .args .t .fields in refusing (layoutFaults f) _ (unlaid f (check .check-layout .result) _ (check .check-layout .ensures) (told .k .given .1)))
     (λ c.

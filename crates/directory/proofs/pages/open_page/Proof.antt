@@ -9,10 +9,7 @@ pub open-page-spec : {M : Type 1} → statement M
 open-page-spec =
     tie.close
     (tie.spec
-    (λ c κs. search needs)
-    (λ c. search needs)
-    (λ c. search needs)
-    (λ c κs. search needs)
+    (λ c κs. search needs) (λ c. search needs) (λ c. search needs) (λ c κs. search needs)
     (λ c.
     let told = c .before in
     let read = told .before .before in

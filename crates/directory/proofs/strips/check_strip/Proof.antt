@@ -7,7 +7,6 @@ pub check-strip-spec : {M : Type 1} → statement M
 check-strip-spec =
     tie.close
     (tie.spec
-    (λ c κs. search needs)
-    (λ c κs. search needs)
+    (λ c κs. search needs) (λ c κs. search needs)
     (λ c κs. rw (c .before .strips-per-plane .ensures) at (c .rest .ensures))
     (λ c. search needs))

@@ -40,8 +40,7 @@ check-strips-spec =
     record { passed = refusing (faultsBelow (args .s .offsets .count) f) tt (turn-first (args .s .offsets .count) f (loop .loop .k) (check .before .loop-test .taken) (loop .loop .inv .1 .1) (step-first (check .check-turn .ensures) (told .r .given .1))) })
     (λ c. search needs)
     (λ c κs. let loop = c .before .before .before .before in omega (arith, loop .loop .inv .1 .0, turn-within (loop .loop .k) (stripsPerPlane (loop .before .before .before .args .s .rows) (loop .before .before .before .args .s .each))))
-    (λ c. search needs)
-    (λ c. search needs)
+    (λ c. search needs) (λ c. search needs)
     (λ c.
     let told = c .before in
     let check = told .before .before in

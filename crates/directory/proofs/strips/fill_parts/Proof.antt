@@ -25,19 +25,12 @@ fill-parts-spec =
     Inv-loop
     μ-loop
     (λ c. (omega arith, (refl, filled-none _ _)))
-    (λ c κs. search needs)
-    (λ c. search needs)
-    (λ c. search needs)
-    (λ c. search needs)
+    (λ c κs. search needs) (λ c. search needs) (λ c. search needs) (λ c. search needs)
     (λ c. let turn = c .before in let loop = turn .before in omega (arith, loop .loop .inv .1 .0, loop .before .before .before .pre, turn .loop-test .taken, loop .loop .inv .1 .1 .same))
-    (λ c κs. search needs)
-    (λ c. search needs)
-    (λ c. search needs)
-    (λ c. search needs)
+    (λ c κs. search needs) (λ c. search needs) (λ c. search needs) (λ c. search needs)
     (λ c. let place = c .before in let turn = place .before in let loop = turn .before in omega (arith, loop .loop .inv .1 .0, loop .before .before .before .pre, turn .loop-test .taken, loop .loop .inv .1 .1 .same, length-set (loop .loop .parts) (loop .loop .at + 0) (place .place-of .result)))
     (λ c. let loop = c .before .before .before in omega (arith, loop .loop .inv .1 .0, loop .before .before .before .pre))
-    (λ c. search needs)
-    (λ c. search needs)
+    (λ c. search needs) (λ c. search needs)
     (λ c.
     let place = c .before in
     let loop = place .before .before in

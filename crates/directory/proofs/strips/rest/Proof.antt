@@ -10,5 +10,4 @@ rest-spec =
     tie.close
     (tie.spec
     (λ c. rw (c .if1 .taken) (sym (mod-zero _)))
-    (λ c. search needs)
-    (λ c. search needs))
+    (λ c. search needs) (λ c. search needs))

@@ -15,7 +15,6 @@ rows-at-spec =
     (tie.spec
     (λ c. wide-product (search needs) (search needs))
     (λ c. let args = c .before .args in let none : args .rows - args .turn * args .each ≡ 0 = omega arith in rw (none, le-ltb (args .each) 0 (omega arith)))
-    (λ c. search needs)
-    (λ c. search needs)
+    (λ c. search needs) (λ c. search needs)
     (λ c. rw (lt-ltb _ _ (c .if2 .taken)))
     (λ c. rw (le-ltb _ _ (c .if2 .left))))

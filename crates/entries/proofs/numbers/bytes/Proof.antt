@@ -8,7 +8,6 @@ pub bytes-spec : {M : Type 1} → statement M
 bytes-spec =
     tie.close
     (tie.spec
-    (λ c. search needs)
-    (λ c. search needs)
+    (λ c. search needs) (λ c. search needs)
     (λ c. rw (eq-eqb _ 3 (c .if1 .taken)))
     (λ c. rw (ne-eqb _ 3 (c .if1 .left))))

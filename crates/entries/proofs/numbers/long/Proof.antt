@@ -7,7 +7,6 @@ pub long-spec : {M : Type 1} → statement M
 long-spec =
     tie.close
     (tie.spec
-    (λ c κs. search needs)
-    (λ c κs. search needs)
+    (λ c κs. search needs) (λ c κs. search needs)
     (λ c. rw (c .before .if1 .taken) (c .little-long .ensures))
     (λ c. rw (c .before .if1 .left) (c .big-long .ensures)))

@@ -7,7 +7,6 @@ pub short-spec : {M : Type 1} → statement M
 short-spec =
     tie.close
     (tie.spec
-    (λ c κs. search needs)
-    (λ c κs. search needs)
+    (λ c κs. search needs) (λ c κs. search needs)
     (λ c. rw (c .before .if1 .taken) (c .little-short .ensures))
     (λ c. rw (c .before .if1 .left) (c .big-short .ensures)))

@@ -24,9 +24,7 @@ pub short-in-spec : {M : Type 1} → statement M
 short-in-spec =
     tie.close
     (tie.spec
-    (λ c. search needs)
-    (λ c. search needs)
-    (λ c κs. search needs)
+    (λ c. search needs) (λ c. search needs) (λ c κs. search needs)
     (λ c. rw (sym (end (c .before)) ∙ c .if1 .taken))
     (λ c. search needs)
     (λ c. omega (arith, inside c))

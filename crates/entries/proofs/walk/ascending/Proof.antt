@@ -38,12 +38,7 @@ ascending-spec =
     μ-loop
     (λ c. search needs)
     (λ c. (omega arith, refl))
-    (λ c. search needs)
-    (λ c κs. search needs)
-    (λ c. search needs)
-    (λ c κs. search needs)
-    (λ c. search needs)
-    (λ c. search needs)
+    (λ c. search needs) (λ c κs. search needs) (λ c. search needs) (λ c κs. search needs) (λ c. search needs) (λ c. search needs)
     (λ c.
     let first = c .before in
     let loop = first .before .before in

@@ -31,8 +31,7 @@ walk-spec =
     μ-loop
     (λ c κs. search needs)
     loop-holds
-    (λ c κs. search needs)
-    (λ c. search needs)
+    (λ c κs. search needs) (λ c. search needs)
     (λ c.
     let told = c .before in
     let opened = told .before .before in
@@ -48,8 +47,7 @@ walk-spec =
     let loop = opened .before .before in
     let args = loop .before .before .before .args in
     opened-room (now (args .file)) (args .le) (loop .loop .at) (loop .loop .p) (opened .open-at .result) (loop .loop .inv .1 .0) (opened .open-at .ensures) _ (told .d .given .1))
-    (λ c. search needs)
-    (λ c. search needs)
+    (λ c. search needs) (λ c. search needs)
     (λ c.
     let told = c .before .before in
     let opened = told .before .before in

@@ -12,7 +12,5 @@ pub check-predictor-spec : {M : Type 1} → statement M
 check-predictor-spec =
     tie.close
     (tie.spec
-    (λ c κs. search needs)
-    (λ c κs. search needs)
-    (λ c κs. search needs)
+    (λ c κs. search needs) (λ c κs. search needs) (λ c κs. search needs)
     returns)

@@ -7,7 +7,5 @@ pub map-values-spec : {M : Type 1} → statement M
 map-values-spec =
     tie.close
     (tie.spec
-    (λ c κs. search needs)
-    (λ c κs. search needs)
-    (λ c κs. search needs)
+    (λ c κs. search needs) (λ c κs. search needs) (λ c κs. search needs)
     (λ c. rw (c .choose3 .ensures, c .before .choose2 .ensures, c .before .before .choose .ensures)))

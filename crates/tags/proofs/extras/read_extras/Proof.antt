@@ -27,7 +27,5 @@ pub read-extras-spec : {M : Type 1} → statement M
 read-extras-spec =
     tie.close
     (tie.spec
-    (λ c κs. search needs)
-    (λ c κs. search needs)
-    (λ c κs. search needs)
+    (λ c κs. search needs) (λ c κs. search needs) (λ c κs. search needs)
     returns)

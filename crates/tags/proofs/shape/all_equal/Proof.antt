@@ -31,9 +31,7 @@ all-equal-spec =
     μ-loop
     (λ c κs. search needs)
     (λ c. (omega arith, refl))
-    (λ c κs. search needs)
-    (λ c. search needs)
-    (λ c. search needs)
+    (λ c κs. search needs) (λ c. search needs) (λ c. search needs)
     (λ c.
     let loop = c .before .before in
     let first = loop .before in

@@ -16,7 +16,6 @@ pub samples-of-spec : {M : Type 1} → statement M
 samples-of-spec =
     tie.close
     (tie.spec
-    (λ c κs. search needs)
-    (λ c κs. search needs)
+    (λ c κs. search needs) (λ c κs. search needs)
     (λ c. omega (arith, c .choose2 .ensures, c .before .choose .ensures, few (eqb (c .before .before .args .photometric) 2) 3 1 (omega arith) (omega arith), few (c .before .before .args .extra) 1 0 (omega arith) (omega arith)))
     (λ c. rw (c .choose2 .ensures, c .before .choose .ensures)))

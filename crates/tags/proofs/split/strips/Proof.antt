@@ -22,9 +22,6 @@ pub strips-spec : {M : Type 1} → statement M
 strips-spec =
     tie.close
     (tie.spec
-    (λ c κs. search needs)
-    (λ c. search needs)
-    (λ c κs. search needs)
-    (λ c. search needs)
+    (λ c κs. search needs) (λ c. search needs) (λ c κs. search needs) (λ c. search needs)
     (λ c. let start = c .before .before .before in wide-product (search needs) (rw (c .choose .ensures) (planes-wide (eqb (start .args .t .planar .value) 2) _ (omega (arith, c .before .struct-known .given)))))
     returns)
