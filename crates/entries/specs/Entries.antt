@@ -109,8 +109,8 @@ LONG = 4
 abbrev pub bytesOf : ℕ → ℕ → ℕ
 bytesOf kind count = pick (eqb kind SHORT) (2 * count) (4 * count)
 
-abbrev pub numberAt : List ℕ → Bool → ℕ → ℕ → ℕ → ℕ
-numberAt file le kind at j = pick (eqb kind SHORT) (short file le (at + 2 * j)) (long file le (at + 4 * j))
+abbrev pub numberAt : List ℕ → Bool → ℕ → ℕ → ℕ
+numberAt file le kind at = pick (eqb kind SHORT) (short file le at) (long file le at)
 
 -- where so many bytes of values stand: in the entry if they take four bytes or fewer, else at the place that it says
 abbrev pub valuesAt : List ℕ → Bool → ℕ → ℕ → ℕ
@@ -127,7 +127,7 @@ fieldAt file d i =
       kind = kind;
       count = count;
       place = valuesAt file (d .le) (entryAt d i + 8) (bytesOf kind count);
-      value = numberAt file (d .le) kind (entryAt d i + 8) 0;
+      value = numberAt file (d .le) kind (entryAt d i + 8);
     }
 
 -- a missing field counts as one SHORT, its default

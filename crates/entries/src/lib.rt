@@ -106,7 +106,7 @@ fn values_at(file: &[u8], le: bool, inside: usize, bytes: usize) -> usize
 // The number in an entry.
 fn value_at(file: &[u8], le: bool, kind: u16, inside: usize) -> u32
     requires { ⌜ inside + 4 ≤ length (now file) ⌝ }
-    ensures { λ r. ⌜ r ≡ numberAt (now (file .entry)) le kind inside 0 ⌝ }
+    ensures { λ r. ⌜ r ≡ numberAt (now (file .entry)) le kind inside ⌝ }
 {
     if kind == SHORT {
         short(file, le, inside) as u32

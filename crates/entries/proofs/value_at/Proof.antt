@@ -1,7 +1,6 @@
 -- `entries::value_at` meets its contract: a SHORT or a LONG. Assumes nothing.
 use borrow.Author.Needs.{needs}
 use borrow.Author.Tests.{eq-eqb, ne-eqb}
-use native.Mathlib.Nat.{add-zero}
 use Rattle.entries.proofs.value_at.Statement.{statement}
 use Rattle.entries.proofs.value_at.Tie as tie
 
@@ -10,5 +9,5 @@ value-at-spec =
     tie.close
     (tie.spec
     (λ c κs. search needs) (λ c. search needs) (λ c κs. search needs)
-    (λ c. let args = c .before .before .before .args in rw (eq-eqb _ 3 (c .before .if1 .taken), add-zero (args .inside)) (c .short .ensures))
-    (λ c. let args = c .before .before .before .args in rw (ne-eqb _ 3 (c .before .if1 .left), add-zero (args .inside)) (c .long .ensures)))
+    (λ c. rw (eq-eqb _ 3 (c .before .if1 .taken)) (c .short .ensures))
+    (λ c. rw (ne-eqb _ 3 (c .before .if1 .left)) (c .long .ensures)))
