@@ -7,6 +7,9 @@ use crate::{ByteOrder, Layout, Refusal};
 use std::error::Error;
 use std::fmt;
 
+/// The number at byte 2 of a file that has places of eight bytes.
+const BIG_TIFF: u64 = 43;
+
 const SHORT: u64 = 3;
 const LONG: u64 = 4;
 
@@ -14,7 +17,10 @@ const LONG: u64 = 4;
 const LONG_TAGS: [u64; 5] = [256, 257, 273, 278, 279];
 
 /// Tags that may have more values than one.
-const LIST_TAGS: [u64; 4] = [258, 273, 279, 320];
+const LIST_TAGS: [u64; 5] = [258, 273, 279, 320, 339];
+
+/// Tags that are not looked at, though all values but 1 give the samples or the rows another meaning.
+const SKIPPED_TAGS: [u64; 3] = [266, 274, 339];
 
 /// What a page of a file says of its picture.
 #[derive(Clone, Debug, PartialEq, Eq)]
@@ -63,6 +69,8 @@ pub enum Fault {
 pub enum TagFault {
     /// It is not there and has no default.
     Missing,
+    /// It is not there, as the page has tiles in place of strips.
+    Tiled,
     /// Its type is not one that the tag has.
     Type { found: u64 },
     /// Its count is not one that the tag has.
@@ -153,6 +161,30 @@ pub fn explain_strip(file: &[u8], page: usize, k: usize) -> Result<(usize, usize
 pub fn explain_layout(file: &[u8], page: usize) -> Result<(Layout, usize, usize), Fault> {
     let fields = fields(&directory(file, page)?)?;
     Ok((layout(&fields)?, fields.predictor as usize, fields.places.count as usize))
+}
+
+/// A tag that is not looked at, with a value that gives the samples or the rows of a page another meaning than the one
+/// that they are read with. As text it says how they are read.
+#[derive(Clone, Copy, Debug, PartialEq, Eq)]
+pub struct Skipped {
+    /// 266 (FillOrder), 274 (Orientation) or 339 (SampleFormat).
+    pub tag: u64,
+    /// Its first value that is not 1.
+    pub value: u64,
+}
+
+/// The tags of a page that should make its reader wary, though they are no reason to refuse it; none where the directory
+/// is refused.
+pub fn skipped(file: &[u8], page: usize) -> Vec<Skipped> {
+    let Ok(directory) = directory(file, page) else {
+        return Vec::new();
+    };
+    let wary = |tag: u64| {
+        let values = directory.values(tag).ok()??;
+        let value = (0..values.count).map(|k| values.get(k)).find(|&value| value != 1)?;
+        Some(Skipped { tag, value })
+    };
+    SKIPPED_TAGS.into_iter().filter_map(wary).collect()
 }
 
 /// A file's bytes, read as numbers in its byte order.
@@ -270,10 +302,15 @@ impl<'a> Directory<'a> {
         self.source.number(self.entry(self.entries), 4)
     }
 
+    /// Where the entry of a tag stands, if it is there.
+    fn find(&self, tag: u64) -> Option<u64> {
+        (0..self.entries).find(|&n| self.tag(n) == tag).map(|n| self.entry(n))
+    }
+
     /// The values of a tag, if it is there; their type, count and room are good.
     fn values(&self, tag: u64) -> Result<Option<Values<'a>>, Fault> {
         let wrong = |fault| Err(Fault::Tag { tag, fault });
-        let Some(entry) = (0..self.entries).find(|&n| self.tag(n) == tag).map(|n| self.entry(n)) else {
+        let Some(entry) = self.find(tag) else {
             return Ok(None);
         };
         let size = match self.source.number(entry + 2, 2) {
@@ -296,7 +333,9 @@ impl<'a> Directory<'a> {
 
     /// The values of a tag that has to be there.
     fn needed(&self, tag: u64) -> Result<Values<'a>, Fault> {
-        self.values(tag)?.ok_or(Fault::Tag { tag, fault: TagFault::Missing })
+        let tiled = tag == 273 && self.find(TILES).is_some();
+        let fault = if tiled { TagFault::Tiled } else { TagFault::Missing };
+        self.values(tag)?.ok_or(Fault::Tag { tag, fault })
     }
 
     /// The one value of a tag, or where it is missing its default.
@@ -323,6 +362,9 @@ struct Fields<'a> {
 
 /// 262: samples are places in a palette.
 const PALETTE: u64 = 3;
+
+/// The tag that every page of tiles has.
+const TILES: u64 = 322;
 
 fn wrong_if(found: bool, tag: u64, fault: TagFault) -> Result<(), Fault> {
     if found {
@@ -503,10 +545,17 @@ impl fmt::Display for Fault {
         match *self {
             Fault::PageLimit { page } => write!(f, "page {page} is above {}, the highest that is read", MOST_PAGES - 1),
             Fault::NoHeader { length } => write!(f, "the file's length is {length}; a header has 8 bytes"),
-            Fault::NoOrder { found: [a, b] } => write!(f, "the file begins with bytes {a} and {b}, not with II or MM"),
+            Fault::NoOrder { found: [a, b] } => {
+                write!(f, "the file begins with bytes {a} and {b}, not with II or MM: it is no TIFF file")
+            }
+            Fault::NoTiff { found: BIG_TIFF } => {
+                write!(f, "the number at byte 2 is {BIG_TIFF}, not TIFF's 42: the file is a BigTIFF, which is not read")
+            }
             Fault::NoTiff { found } => write!(f, "the number at byte 2 is {found}, not TIFF's 42"),
-            Fault::NoPage { page, pages: 1 } => write!(f, "page {page} is not there: the file has 1 page"),
-            Fault::NoPage { page, pages } => write!(f, "page {page} is not there: the file has {pages} pages"),
+            Fault::NoPage { page, pages: 1 } => write!(f, "page {page} is not there: the file has 1 page, page 0"),
+            Fault::NoPage { page, pages } => {
+                write!(f, "page {page} is not there: the file has {pages} pages, the first being 0")
+            }
             Fault::NoCount { page, at, length } => {
                 write!(f, "page {page}: its directory is at byte {at}, and the file ends at byte {length}")
             }
@@ -555,6 +604,9 @@ impl TagFault {
     fn tell(self, tag: u64, f: &mut fmt::Formatter) -> fmt::Result {
         match self {
             TagFault::Missing => write!(f, "it is missing and has no default"),
+            TagFault::Tiled => {
+                write!(f, "it is missing, and {} is there: the page has tiles, and only strips are read", Named(TILES))
+            }
             TagFault::Type { found } if LONG_TAGS.contains(&tag) => {
                 write!(f, "its type is {found}, neither {SHORT} (SHORT) nor {LONG} (LONG)")
             }
@@ -564,10 +616,12 @@ impl TagFault {
             TagFault::Room { at, bytes, length } => {
                 write!(f, "its {bytes} bytes at byte {at} end at byte {}, and the file at byte {length}", at + bytes)
             }
-            TagFault::Value { number, value } if LIST_TAGS.contains(&tag) => {
-                write!(f, "value {number} is {value}; served are {}", values(tag))
+            TagFault::Value { number: 0, value } => {
+                write!(f, "its value is {value}{}; {}", Meant(tag, value), values(tag))
             }
-            TagFault::Value { value, .. } => write!(f, "its value is {value}; served are {}", values(tag)),
+            TagFault::Value { number, value } => {
+                write!(f, "its value {number}, the first being 0, is {value}; {}", values(tag))
+            }
             TagFault::NoRows => write!(f, "its value is 0: a strip has rows"),
             TagFault::SamplesOfBits { samples, bits } => {
                 write!(f, "its value is {samples}, and the count of {} is {bits}", Named(258))
@@ -597,14 +651,56 @@ impl TagFault {
 /// The values that are served of a tag.
 fn values(tag: u64) -> &'static str {
     match tag {
-        258 => "1, 4, 8 and 16, the same for all samples",
-        259 => "1 alone, not compressed",
-        262 => "0 to 3",
-        317 => "1, and from 8 bits a sample 2",
-        _ => "1 and 2",
+        258 => "served are 1, 4, 8 and 16, the same for all samples",
+        259 => "only 1, not compressed, is served",
+        262 => "served are 0 and 1 (grey), 2 (red, green and blue) and 3 (a palette)",
+        317 => "served are 1 and, from 8 bits a sample, 2",
+        _ => "served are 1 and 2",
     }
 }
-/// TIFF's name of a tag that is used.
+
+/// What a tag's value stands for, in brackets, where it is a common one that is not served or not looked at.
+struct Meant(u64, u64);
+
+impl fmt::Display for Meant {
+    fn fmt(&self, f: &mut fmt::Formatter) -> fmt::Result {
+        let name = match (self.0, self.1) {
+            (259, 2..=4) => "fax",
+            (259, 5) => "LZW",
+            (259, 6 | 7) => "JPEG",
+            (259, 8 | 32_946) => "Deflate",
+            (259, 32_773) => "PackBits",
+            (259, 34_925) => "LZMA",
+            (259, 50_000) => "Zstandard",
+            (259, 50_001) => "WebP",
+            (262, 4) => "a mask",
+            (262, 5) => "inks",
+            (262, 6) => "YCbCr",
+            (262, 8..=10) => "L*a*b*",
+            (262, 32_803) => "a colour filter",
+            (317, 3) => "floating point",
+            (338, 0) => "no meaning given",
+            (339, 2) => "with a sign",
+            (339, 3) => "floating point",
+            _ => return Ok(()),
+        };
+        write!(f, " ({name})")
+    }
+}
+
+impl fmt::Display for Skipped {
+    fn fmt(&self, f: &mut fmt::Formatter) -> fmt::Result {
+        let Skipped { tag, value } = *self;
+        let taken = match tag {
+            266 => "bits are taken as they stand",
+            274 => "rows are taken from the top, columns from the left",
+            _ => "samples are taken as whole numbers without a sign",
+        };
+        write!(f, "{} is {value}{}: {taken}", Named(tag), Meant(tag, value))
+    }
+}
+
+/// TIFF's name of a tag that is spoken of.
 fn name(tag: u64) -> &'static str {
     match tag {
         256 => "ImageWidth",
@@ -612,15 +708,19 @@ fn name(tag: u64) -> &'static str {
         258 => "BitsPerSample",
         259 => "Compression",
         262 => "PhotometricInterpretation",
+        266 => "FillOrder",
         273 => "StripOffsets",
+        274 => "Orientation",
         277 => "SamplesPerPixel",
         278 => "RowsPerStrip",
         279 => "StripByteCounts",
         284 => "PlanarConfiguration",
         317 => "Predictor",
         320 => "ColorMap",
+        322 => "TileWidth",
         338 => "ExtraSamples",
-        other => unreachable!("tag {other} is not used"),
+        339 => "SampleFormat",
+        other => unreachable!("tag {other} is not spoken of"),
     }
 }
 
@@ -729,10 +829,14 @@ mod tests {
         assert_eq!(explain(&looped, 15), explain(&good, 0));
         assert_fault(&[], 16, Refusal::Limit, "page 16 is above 15, the highest that is read");
         assert_fault(&good[..7], 0, Refusal::Truncated, "the file's length is 7; a header has 8 bytes");
-        assert_fault(b"IM*\0\0\0\0\0", 0, Refusal::Invalid, "the file begins with bytes 73 and 77, not with II or MM");
+        let text = "the file begins with bytes 73 and 77, not with II or MM: it is no TIFF file";
+        assert_fault(b"IM*\0\0\0\0\0", 0, Refusal::Invalid, text);
         assert_fault(b"MM*\0\0\0\0\0", 0, Refusal::Invalid, "the number at byte 2 is 10752, not TIFF's 42");
-        assert_fault(b"II*\0\0\0\0\0", 3, Refusal::Invalid, "page 3 is not there: the file has 0 pages");
-        assert_fault(&good, 2, Refusal::Invalid, "page 2 is not there: the file has 1 page");
+        let text = "the number at byte 2 is 43, not TIFF's 42: the file is a BigTIFF, which is not read";
+        assert_fault(b"MM\0+\0\x08\0\0", 0, Refusal::Invalid, text);
+        let text = "page 3 is not there: the file has 0 pages, the first being 0";
+        assert_fault(b"II*\0\0\0\0\0", 3, Refusal::Invalid, text);
+        assert_fault(&good, 2, Refusal::Invalid, "page 2 is not there: the file has 1 page, page 0");
     }
 
     #[test]
@@ -761,10 +865,45 @@ mod tests {
         assert_fault(&with((273, 4, 0, 180)), 0, Refusal::Invalid, "tag 273 (StripOffsets): its count is 0");
         let text = "tag 273 (StripOffsets): its 8 bytes at byte 213 end at byte 221, and the file at byte 220";
         assert_fault(&with((273, 4, 2, 213)), 0, Refusal::Truncated, text);
-        let text = "tag 258 (BitsPerSample): value 2 is 0; served are 1, 4, 8 and 16, the same for all samples";
+        let text = "tag 258 (BitsPerSample): its value 2, the first being 0, is 0; served are 1, 4, 8 and 16, the same for all samples";
         let mut bits = with((258, 3, 3, 190));
         bits[190..194].copy_from_slice(&[8, 0, 8, 0]);
         assert_fault(&bits, 0, Refusal::Unsupported, text);
+    }
+
+    #[test]
+    fn tiles() {
+        let mut entries = GREY.to_vec();
+        entries[4] = (322, 3, 1, 16);
+        entries.sort();
+        let text = "tag 273 (StripOffsets): it is missing, and tag 322 (TileWidth) is there: the page has tiles, and only strips are read";
+        assert_fault(&file(&entries), 0, Refusal::Invalid, text);
+        assert!(explain(&with((322, 3, 1, 16)), 0).is_ok());
+    }
+
+    #[test]
+    fn values_that_are_not_served() {
+        let text = "tag 259 (Compression): its value is 5 (LZW); only 1, not compressed, is served";
+        assert_fault(&with((259, 3, 1, 5)), 0, Refusal::Unsupported, text);
+        let text = "tag 258 (BitsPerSample): its value is 32; served are 1, 4, 8 and 16, the same for all samples";
+        assert_fault(&with((258, 3, 1, 32)), 0, Refusal::Unsupported, text);
+        let text = "tag 284 (PlanarConfiguration): its value is 3; served are 1 and 2";
+        assert_fault(&with((284, 3, 1, 3)), 0, Refusal::Unsupported, text);
+    }
+
+    #[test]
+    fn skipped_tags() {
+        let told = |entry: Entry| skipped(&with(entry), 0).iter().map(Skipped::to_string).collect::<Vec<_>>();
+        assert_eq!(told((266, 3, 1, 2)), ["tag 266 (FillOrder) is 2: bits are taken as they stand"]);
+        let text = "tag 274 (Orientation) is 6: rows are taken from the top, columns from the left";
+        assert_eq!(told((274, 3, 1, 6)), [text]);
+        let text = "tag 339 (SampleFormat) is 3 (floating point): samples are taken as whole numbers without a sign";
+        assert_eq!(told((339, 3, 2, 1 + (3 << 16))), [text]);
+        // 1 is how they are taken; what cannot be read is not looked at; nor is a page that is refused
+        for silent in [(266, 3, 1, 1), (339, 3, 2, 1 + (1 << 16)), (266, 4, 1, 2), (339, 3, 3, 215), (273, 4, 2, 180)] {
+            assert_eq!(told(silent), [""; 0]);
+        }
+        assert_eq!(skipped(&with((266, 3, 1, 2)), 1), []);
     }
 
     #[test]
