@@ -105,8 +105,12 @@ fn strips(file: &File) -> usize {
 
 /// The place and length of every strip of every page, found at once.
 fn at_once(file: &File) -> Vec<(usize, usize)> {
-    let of_page = |page| placed(black_box(&file.bytes), page).unwrap();
-    (0..file.pages).flat_map(of_page).map(|place| (place.start, place.len())).collect()
+    let mut places = vec![];
+    for page in 0..file.pages {
+        let of_page = placed(black_box(&file.bytes), page).unwrap();
+        places.extend(of_page.iter().map(|place| (place.start, place.len())));
+    }
+    places
 }
 
 /// The same, found one by one.
