@@ -674,7 +674,7 @@ impl fmt::Display for Meant {
             (259, 50_000) => "Zstandard",
             (259, 50_001) => "WebP",
             (262, 4) => "a mask",
-            (262, 5) => "inks",
+            (262, 5) => "CMYK",
             (262, 6) => "YCbCr",
             (262, 8..=10) => "L*a*b*",
             (262, 32_803) => "a colour filter",

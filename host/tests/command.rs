@@ -769,7 +769,7 @@ fn refusals_name_the_tag() {
         (of(colours().with(257, &[1, 1])), "0", 2, "tag 257 (ImageLength)"),
         (changed(42, 4, 4000), "0", 3, "tag 258 (BitsPerSample)"),
         (of(colours().with(259, &[5])), "0", 1, "tag 259 (Compression): its value is 5"),
-        (of(colours().with(262, &[5])), "0", 1, "tag 262 (PhotometricInterpretation): its value is 5 (inks)"),
+        (of(colours().with(262, &[5])), "0", 1, "tag 262 (PhotometricInterpretation): its value is 5 (CMYK)"),
         (of(tiled), "0", 2, "tag 273 (StripOffsets): it is missing, and tag 322 (TileWidth) is there"),
         (of(colours().with(278, &[0])), "0", 2, "tag 278 (RowsPerStrip)"),
         (of(colours().with(277, &[4])), "0", 2, "tag 277 (SamplesPerPixel)"),
