@@ -1,7 +1,7 @@
 //! Directories: the library and the host's plain reading on a million spoiled files, refusal by refusal.
 
 use crate::lent::Lent;
-use crate::made::{made, made_with_wide_palette, Made};
+use crate::made::{made, made_with_wide_palette, made_without_rows, Made};
 use crate::numbers::{check, seven};
 use crate::random::Random;
 use crate::spoiled::spoiled;
@@ -270,8 +270,10 @@ fn compare_many(seed: u64, files: usize) -> Tally {
         }
     }
     for _ in 0..4 {
-        let file = made_with_wide_palette(&mut random);
-        compare(&mut random, &file, &mut tally);
+        for rare in [made_with_wide_palette, made_without_rows] {
+            let file = rare(&mut random);
+            compare(&mut random, &file, &mut tally);
+        }
     }
     tally
 }
