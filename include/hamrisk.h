@@ -184,7 +184,8 @@ typedef struct hamrisk_page {
  *     take four bytes or fewer, else the place of the values.
  *     A place of 0, a page that is not there: 2; the count not in the file: 3; a count above 64: 5; the entries or the word after
  *     them not in the file: 3; tags not strictly ascending: 2.
- *  3. Each of these tags of the page, in this order; others are not looked at.
+ *  3. Each of these tags of the page, in this order; others are not looked at: bits, rows and samples are taken as if 266
+ *     (FillOrder), 274 (Orientation) and 339 (SampleFormat) were 1.
  *       tag                        type           count     default  served values
  *       256 columns                SHORT or LONG  1         none     all
  *       257 rows                   SHORT or LONG  1         none     all

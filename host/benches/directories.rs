@@ -1,7 +1,7 @@
 //! The strip places of whole files in memory, beside libtiff, which opens the same bytes.
 use crate::libtiff::Libtiff;
 use crate::{both, seconds};
-use hamrisk::{placed, strip_place};
+use hamrisk::{placed, read_directory, strip_place};
 use std::hint::black_box;
 
 const SHORT: u16 = 3;
@@ -98,10 +98,19 @@ fn files() -> Vec<File> {
     files
 }
 
+/// How many strips all pages have.
+fn strips(file: &File) -> usize {
+    (0..file.pages).map(|page| read_directory(black_box(&file.bytes), page).unwrap().strips).sum()
+}
+
 /// The place and length of every strip of every page, found at once.
 fn at_once(file: &File) -> Vec<(usize, usize)> {
-    let of_page = |page| placed(black_box(&file.bytes), page).unwrap();
-    (0..file.pages).flat_map(of_page).map(|place| (place.start, place.len())).collect()
+    let mut places = vec![];
+    for page in 0..file.pages {
+        let of_page = placed(black_box(&file.bytes), page).unwrap();
+        places.extend(of_page.iter().map(|place| (place.start, place.len())));
+    }
+    places
 }
 
 /// The same, found one by one.
@@ -113,21 +122,24 @@ fn one_by_one(file: &File, strips: usize) -> Vec<(usize, usize)> {
 
 /// A row for each file: microseconds, and how fast all places at once are as a part of what libtiff is.
 pub fn print(libtiff: Option<&Libtiff>) {
-    println!("\n| file | all places at once, µs | one by one, µs | libtiff, µs | at once to libtiff |\n|---|---|---|---|---|");
+    println!(
+        "\n| file | read_directory, µs | all places at once, µs | one by one, µs | libtiff, µs | at once to libtiff |"
+    );
+    println!("|---|---|---|---|---|---|");
     for file in files() {
-        let places = at_once(&file);
-        assert!(one_by_one(&file, places.len()) == places, "{}", file.name);
-        let each = seconds(|| assert!(!one_by_one(&file, places.len()).is_empty()));
+        let (name, places) = (&file.name, at_once(&file));
+        assert!(one_by_one(&file, places.len()) == places && strips(&file) == places.len(), "{name}");
+        let directory = seconds(|| assert!(strips(&file) > 0)) * 1e6;
+        let each = seconds(|| assert!(!one_by_one(&file, places.len()).is_empty())) * 1e6;
         let ours = || assert!(!at_once(&file).is_empty());
-        let name = &file.name;
         if let Some(libtiff) = libtiff {
             let mut theirs = libtiff.places(&file.bytes);
             assert!(theirs() == places, "{name}");
             let (ours, theirs) = both(ours, || assert!(!theirs().is_empty()));
-            let (a, b, c) = (ours * 1e6, each * 1e6, theirs * 1e6);
-            println!("| {name} | {a:.1} | {b:.1} | {c:.1} | {:.2} |", theirs / ours);
+            let (all, rival, ratio) = (ours * 1e6, theirs * 1e6, theirs / ours);
+            println!("| {name} | {directory:.1} | {all:.1} | {each:.1} | {rival:.1} | {ratio:.2} |");
         } else {
-            println!("| {name} | {:.1} | {:.1} | | |", seconds(ours) * 1e6, each * 1e6);
+            println!("| {name} | {directory:.1} | {:.1} | {each:.1} | | |", seconds(ours) * 1e6);
         }
     }
 }

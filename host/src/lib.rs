@@ -6,7 +6,7 @@
 //! call that is done writes the stated bytes at the front of its output and leaves the bytes past them as they were.
 //! The numbers that are served stand in [`limits`]. Nothing is allocated, but for the calls that answer a `Vec`:
 //! [`converted`], [`forwarded`], [`marked`], [`rendered`], [`written`] and [`placed`]; [`explain`], which says what the
-//! refusal of a file is about; and [`picture`] and [`samples`], which need no more than a file:
+//! refusal of a file is about; [`skipped`], which says what to be wary of; and [`picture`] and [`samples`], which need no more than a file:
 //!
 //! ```no_run
 //! let shelf = hamrisk::picture(&std::fs::read("shelf.tif")?, 0)?;
@@ -45,5 +45,7 @@ pub use ffi::{
 };
 pub use owned::{converted, forwarded, marked, rendered, written};
 pub use pages::{picture, placed, samples, Picture, Samples};
-pub use reading::{explain, explain_layout, explain_strip, Fault, LayoutFault, Reading, StripFault, TagFault};
+pub use reading::{
+    explain, explain_layout, explain_strip, skipped, Fault, LayoutFault, Reading, Skipped, StripFault, TagFault,
+};
 pub use types::{ByteAt, ByteOrder, Coding, Derived, Layout, Page, Refusal, SampleAt, Strip};

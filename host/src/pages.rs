@@ -25,6 +25,8 @@ pub struct Samples {
 ///
 /// Refuses: as [`read_directory`]; then planes or a picture that there is no memory for is Limit.
 ///
+/// Bits, samples and rows are taken as they stand in the file: [`skipped`] names the tags that say otherwise.
+///
 /// Strips may overlap in the file, so a file of 200 KB can hold a picture of 1 GiB, the most that is served. Where that is
 /// too much, [`read_directory`] says beforehand what a page takes: scratch length for its samples, and output length
 /// beside it for its picture.

@@ -2,10 +2,11 @@
 //! decides what is served; this says which directory, tag or strip a refusal is about, and with which number. It calls
 //! nothing of the library, and the tests hold the two against each other.
 
+mod words;
+
 use crate::limits::{MOST_ENTRIES, MOST_PAGES, MOST_PICTURE_BYTES, MOST_SIDE};
 use crate::{ByteOrder, Layout, Refusal};
 use std::error::Error;
-use std::fmt;
 
 const SHORT: u64 = 3;
 const LONG: u64 = 4;
@@ -14,7 +15,10 @@ const LONG: u64 = 4;
 const LONG_TAGS: [u64; 5] = [256, 257, 273, 278, 279];
 
 /// Tags that may have more values than one.
-const LIST_TAGS: [u64; 4] = [258, 273, 279, 320];
+const LIST_TAGS: [u64; 5] = [258, 273, 279, 320, 339];
+
+/// Tags that are not looked at, though all values but 1 give the samples or the rows another meaning.
+const SKIPPED_TAGS: [u64; 3] = [266, 274, 339];
 
 /// What a page of a file says of its picture.
 #[derive(Clone, Debug, PartialEq, Eq)]
@@ -63,6 +67,8 @@ pub enum Fault {
 pub enum TagFault {
     /// It is not there and has no default.
     Missing,
+    /// It is not there, as the page has tiles in place of strips.
+    Tiled,
     /// Its type is not one that the tag has.
     Type { found: u64 },
     /// Its count is not one that the tag has.
@@ -153,6 +159,30 @@ pub fn explain_strip(file: &[u8], page: usize, k: usize) -> Result<(usize, usize
 pub fn explain_layout(file: &[u8], page: usize) -> Result<(Layout, usize, usize), Fault> {
     let fields = fields(&directory(file, page)?)?;
     Ok((layout(&fields)?, fields.predictor as usize, fields.places.count as usize))
+}
+
+/// A tag that is not looked at, with a value that gives the samples or the rows of a page another meaning than the one
+/// that they are read with. As text it says how they are read.
+#[derive(Clone, Copy, Debug, PartialEq, Eq)]
+pub struct Skipped {
+    /// 266 (FillOrder), 274 (Orientation) or 339 (SampleFormat).
+    pub tag: u64,
+    /// Its first value that is not 1.
+    pub value: u64,
+}
+
+/// The tags of a page that should make its reader wary, though they are no reason to refuse it; none where the directory
+/// is refused.
+pub fn skipped(file: &[u8], page: usize) -> Vec<Skipped> {
+    let Ok(directory) = directory(file, page) else {
+        return Vec::new();
+    };
+    let wary = |tag: u64| {
+        let values = directory.values(tag).ok()??;
+        let value = (0..values.count).map(|k| values.get(k)).find(|&value| value != 1)?;
+        Some(Skipped { tag, value })
+    };
+    SKIPPED_TAGS.into_iter().filter_map(wary).collect()
 }
 
 /// A file's bytes, read as numbers in its byte order.
@@ -270,10 +300,15 @@ impl<'a> Directory<'a> {
         self.source.number(self.entry(self.entries), 4)
     }
 
+    /// Where the entry of a tag stands, if it is there.
+    fn find(&self, tag: u64) -> Option<u64> {
+        (0..self.entries).find(|&n| self.tag(n) == tag).map(|n| self.entry(n))
+    }
+
     /// The values of a tag, if it is there; their type, count and room are good.
     fn values(&self, tag: u64) -> Result<Option<Values<'a>>, Fault> {
         let wrong = |fault| Err(Fault::Tag { tag, fault });
-        let Some(entry) = (0..self.entries).find(|&n| self.tag(n) == tag).map(|n| self.entry(n)) else {
+        let Some(entry) = self.find(tag) else {
             return Ok(None);
         };
         let size = match self.source.number(entry + 2, 2) {
@@ -296,7 +331,9 @@ impl<'a> Directory<'a> {
 
     /// The values of a tag that has to be there.
     fn needed(&self, tag: u64) -> Result<Values<'a>, Fault> {
-        self.values(tag)?.ok_or(Fault::Tag { tag, fault: TagFault::Missing })
+        let tiled = tag == 273 && self.find(TILES).is_some();
+        let fault = if tiled { TagFault::Tiled } else { TagFault::Missing };
+        self.values(tag)?.ok_or(Fault::Tag { tag, fault })
     }
 
     /// The one value of a tag, or where it is missing its default.
@@ -323,6 +360,9 @@ struct Fields<'a> {
 
 /// 262: samples are places in a palette.
 const PALETTE: u64 = 3;
+
+/// The tag that every page of tiles has.
+const TILES: u64 = 322;
 
 fn wrong_if(found: bool, tag: u64, fault: TagFault) -> Result<(), Fault> {
     if found {
@@ -498,161 +538,6 @@ impl Fault {
 
 impl Error for Fault {}
 
-impl fmt::Display for Fault {
-    fn fmt(&self, f: &mut fmt::Formatter) -> fmt::Result {
-        match *self {
-            Fault::PageLimit { page } => write!(f, "page {page} is above {}, the highest that is read", MOST_PAGES - 1),
-            Fault::NoHeader { length } => write!(f, "the file's length is {length}; a header has 8 bytes"),
-            Fault::NoOrder { found: [a, b] } => write!(f, "the file begins with bytes {a} and {b}, not with II or MM"),
-            Fault::NoTiff { found } => write!(f, "the number at byte 2 is {found}, not TIFF's 42"),
-            Fault::NoPage { page, pages: 1 } => write!(f, "page {page} is not there: the file has 1 page"),
-            Fault::NoPage { page, pages } => write!(f, "page {page} is not there: the file has {pages} pages"),
-            Fault::NoCount { page, at, length } => {
-                write!(f, "page {page}: its directory is at byte {at}, and the file ends at byte {length}")
-            }
-            Fault::EntryLimit { page, at, entries } => {
-                write!(
-                    f,
-                    "page {page}: the directory at byte {at} says {entries} entries; at most {MOST_ENTRIES} are read"
-                )
-            }
-            Fault::DirectoryEnd { page, at, entries, end, length } => {
-                write!(f, "page {page}: the directory at byte {at}, of count {entries}, ends at byte {end}, ")?;
-                write!(f, "and the file at byte {length}")
-            }
-            Fault::TagOrder { page, entry, tag, before } => {
-                write!(f, "page {page}: entry {entry} has tag {tag}, not above tag {before} of the entry before it")
-            }
-            Fault::Tag { tag, fault } => {
-                write!(f, "{}: ", Named(tag))?;
-                fault.tell(tag, f)
-            }
-            Fault::Layout { tag, fault } => write!(f, "{}: {fault}", Named(tag)),
-            Fault::Strip { strip, fault: fault @ StripFault::Missing { .. } } => write!(f, "strip {strip} {fault}"),
-            Fault::Strip { strip, fault } => write!(f, "strip {strip}: {fault}"),
-        }
-    }
-}
-
-impl fmt::Display for StripFault {
-    fn fmt(&self, f: &mut fmt::Formatter) -> fmt::Result {
-        match *self {
-            StripFault::Missing { strips: 1 } => write!(f, "is not there: the page has 1 strip"),
-            StripFault::Missing { strips } => write!(f, "is not there: the page has {strips} strips"),
-            StripFault::Length { length, rows, row_bytes } => {
-                let needed = rows * row_bytes;
-                write!(f, "its byte count is {length}, not rows {rows} × row bytes {row_bytes} ({needed})")
-            }
-            StripFault::End { place, length, file } => {
-                let end = place + length;
-                write!(f, "at byte {place} with {length} bytes it ends at byte {end}, the file at byte {file}")
-            }
-        }
-    }
-}
-
-impl TagFault {
-    fn tell(self, tag: u64, f: &mut fmt::Formatter) -> fmt::Result {
-        match self {
-            TagFault::Missing => write!(f, "it is missing and has no default"),
-            TagFault::Type { found } if LONG_TAGS.contains(&tag) => {
-                write!(f, "its type is {found}, neither {SHORT} (SHORT) nor {LONG} (LONG)")
-            }
-            TagFault::Type { found } => write!(f, "its type is {found}, not {SHORT} (SHORT)"),
-            TagFault::Count { found: 0 } => write!(f, "its count is 0"),
-            TagFault::Count { found } => write!(f, "its count is {found}, not 1"),
-            TagFault::Room { at, bytes, length } => {
-                write!(f, "its {bytes} bytes at byte {at} end at byte {}, and the file at byte {length}", at + bytes)
-            }
-            TagFault::Value { number, value } if LIST_TAGS.contains(&tag) => {
-                write!(f, "value {number} is {value}; served are {}", values(tag))
-            }
-            TagFault::Value { value, .. } => write!(f, "its value is {value}; served are {}", values(tag)),
-            TagFault::NoRows => write!(f, "its value is 0: a strip has rows"),
-            TagFault::SamplesOfBits { samples, bits } => {
-                write!(f, "its value is {samples}, and the count of {} is {bits}", Named(258))
-            }
-            TagFault::SamplesOfKind { samples, own } => {
-                write!(f, "its value is {samples}; {} asks for {own}, or {} with alpha", Named(262), own + 1)
-            }
-            TagFault::LengthsOfPlaces { lengths, places } => {
-                write!(f, "its count is {lengths}, and the count of {} is {places}", Named(273))
-            }
-            TagFault::PlacesOfStrips { places, strips } => {
-                write!(f, "strips of the picture: {strips}, and the count of {} is {places}", Named(273))
-            }
-            TagFault::ColoursOfBits { found, needed } => {
-                write!(f, "its count is {found}; {} asks for {needed}", Named(258))
-            }
-            TagFault::ExtraSamples { samples, own, extra: 0 } => {
-                write!(f, "it is missing, and {} is {samples}; {} asks for {own}", Named(277), Named(262))
-            }
-            TagFault::ExtraSamples { samples, own, .. } => {
-                write!(f, "it asks for {} samples to a pixel, and {} is {samples}", own + 1, Named(277))
-            }
-        }
-    }
-}
-
-/// The values that are served of a tag.
-fn values(tag: u64) -> &'static str {
-    match tag {
-        258 => "1, 4, 8 and 16, the same for all samples",
-        259 => "1 alone, not compressed",
-        262 => "0 to 3",
-        317 => "1, and from 8 bits a sample 2",
-        _ => "1 and 2",
-    }
-}
-/// TIFF's name of a tag that is used.
-fn name(tag: u64) -> &'static str {
-    match tag {
-        256 => "ImageWidth",
-        257 => "ImageLength",
-        258 => "BitsPerSample",
-        259 => "Compression",
-        262 => "PhotometricInterpretation",
-        273 => "StripOffsets",
-        277 => "SamplesPerPixel",
-        278 => "RowsPerStrip",
-        279 => "StripByteCounts",
-        284 => "PlanarConfiguration",
-        317 => "Predictor",
-        320 => "ColorMap",
-        338 => "ExtraSamples",
-        other => unreachable!("tag {other} is not used"),
-    }
-}
-
-/// A tag with its name.
-struct Named(u64);
-
-impl fmt::Display for Named {
-    fn fmt(&self, f: &mut fmt::Formatter) -> fmt::Result {
-        write!(f, "tag {} ({})", self.0, name(self.0))
-    }
-}
-
-impl fmt::Display for LayoutFault {
-    fn fmt(&self, f: &mut fmt::Formatter) -> fmt::Result {
-        match self {
-            LayoutFault::Empty => write!(f, "its value is 0: that leaves no picture"),
-            LayoutFault::AlphaBits { bits } => write!(f, "alpha goes with samples of 8 bits, not of {bits}"),
-            LayoutFault::AlphaPalette => write!(f, "alpha does not go with a palette"),
-            LayoutFault::PaletteBits => write!(f, "a palette goes with samples of 1, 4 or 8 bits, not of 16"),
-            LayoutFault::PalettePlanes => write!(f, "a palette does not go with planes apart (2)"),
-            LayoutFault::FourBits => write!(f, "samples of 4 bits go with a palette alone"),
-            LayoutFault::OneBit { samples } => write!(f, "samples of 1 bit go one to a pixel, not {samples}"),
-            LayoutFault::Side { value } => write!(f, "its value is {value}; at most {MOST_SIDE} is read"),
-            LayoutFault::Size { w, h, ch, bytes } => {
-                let size = u128::from(w * h) * u128::from(ch * bytes);
-                write!(f, "{w} columns × {h} rows × {ch} channels × {bytes} bytes are {size} bytes, ")?;
-                write!(f, "above {MOST_PICTURE_BYTES}")
-            }
-        }
-    }
-}
-
 #[cfg(test)]
 mod tests {
     use super::*;
@@ -729,10 +614,14 @@ mod tests {
         assert_eq!(explain(&looped, 15), explain(&good, 0));
         assert_fault(&[], 16, Refusal::Limit, "page 16 is above 15, the highest that is read");
         assert_fault(&good[..7], 0, Refusal::Truncated, "the file's length is 7; a header has 8 bytes");
-        assert_fault(b"IM*\0\0\0\0\0", 0, Refusal::Invalid, "the file begins with bytes 73 and 77, not with II or MM");
+        let text = "the file begins with bytes 73 and 77, not with II or MM: it is no TIFF file";
+        assert_fault(b"IM*\0\0\0\0\0", 0, Refusal::Invalid, text);
         assert_fault(b"MM*\0\0\0\0\0", 0, Refusal::Invalid, "the number at byte 2 is 10752, not TIFF's 42");
-        assert_fault(b"II*\0\0\0\0\0", 3, Refusal::Invalid, "page 3 is not there: the file has 0 pages");
-        assert_fault(&good, 2, Refusal::Invalid, "page 2 is not there: the file has 1 page");
+        let text = "the number at byte 2 is 43, not TIFF's 42: the file is a BigTIFF, which is not read";
+        assert_fault(b"MM\0+\0\x08\0\0", 0, Refusal::Invalid, text);
+        let text = "page 3 is not there: the file has 0 pages, the first being 0";
+        assert_fault(b"II*\0\0\0\0\0", 3, Refusal::Invalid, text);
+        assert_fault(&good, 2, Refusal::Invalid, "page 2 is not there: the file has 1 page, page 0");
     }
 
     #[test]
@@ -761,10 +650,45 @@ mod tests {
         assert_fault(&with((273, 4, 0, 180)), 0, Refusal::Invalid, "tag 273 (StripOffsets): its count is 0");
         let text = "tag 273 (StripOffsets): its 8 bytes at byte 213 end at byte 221, and the file at byte 220";
         assert_fault(&with((273, 4, 2, 213)), 0, Refusal::Truncated, text);
-        let text = "tag 258 (BitsPerSample): value 2 is 0; served are 1, 4, 8 and 16, the same for all samples";
+        let text = "tag 258 (BitsPerSample): its value 2, the first being 0, is 0; served are 1, 4, 8 and 16, the same for all samples";
         let mut bits = with((258, 3, 3, 190));
         bits[190..194].copy_from_slice(&[8, 0, 8, 0]);
         assert_fault(&bits, 0, Refusal::Unsupported, text);
+    }
+
+    #[test]
+    fn tiles() {
+        let mut entries = GREY.to_vec();
+        entries[4] = (322, 3, 1, 16);
+        entries.sort();
+        let text = "tag 273 (StripOffsets): it is missing, and tag 322 (TileWidth) is there: the page has tiles, and only strips are read";
+        assert_fault(&file(&entries), 0, Refusal::Invalid, text);
+        assert!(explain(&with((322, 3, 1, 16)), 0).is_ok());
+    }
+
+    #[test]
+    fn values_that_are_not_served() {
+        let text = "tag 259 (Compression): its value is 5 (LZW); only 1, not compressed, is served";
+        assert_fault(&with((259, 3, 1, 5)), 0, Refusal::Unsupported, text);
+        let text = "tag 258 (BitsPerSample): its value is 32; served are 1, 4, 8 and 16, the same for all samples";
+        assert_fault(&with((258, 3, 1, 32)), 0, Refusal::Unsupported, text);
+        let text = "tag 284 (PlanarConfiguration): its value is 3; served are 1 and 2";
+        assert_fault(&with((284, 3, 1, 3)), 0, Refusal::Unsupported, text);
+    }
+
+    #[test]
+    fn skipped_tags() {
+        let told = |entry: Entry| skipped(&with(entry), 0).iter().map(Skipped::to_string).collect::<Vec<_>>();
+        assert_eq!(told((266, 3, 1, 2)), ["tag 266 (FillOrder) is 2: bits are taken as they stand"]);
+        let text = "tag 274 (Orientation) is 6: rows are taken from the top, columns from the left";
+        assert_eq!(told((274, 3, 1, 6)), [text]);
+        let text = "tag 339 (SampleFormat) is 3 (floating point): samples are taken as whole numbers without a sign";
+        assert_eq!(told((339, 3, 2, 1 + (3 << 16))), [text]);
+        // 1 is how they are taken; what cannot be read is not looked at; nor is a page that is refused
+        for silent in [(266, 3, 1, 1), (339, 3, 2, 1 + (1 << 16)), (266, 4, 1, 2), (339, 3, 3, 215), (273, 4, 2, 180)] {
+            assert_eq!(told(silent), [""; 0]);
+        }
+        assert_eq!(skipped(&with((266, 3, 1, 2)), 1), []);
     }
 
     #[test]

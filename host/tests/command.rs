@@ -748,6 +748,7 @@ fn refusals_name_the_tag() {
     let folder = Folder::new("tags");
     let of = |page: Page| tiff::file(ByteOrder::Little, &[page]);
     let good = of(colours());
+    let tiled = Page::grey(16, 16, 8, &[]).with(322, &[16]);
     let changed = |at: usize, size: usize, value: u32| {
         let mut file = good.clone();
         tiff::put(&mut file, ByteOrder::Little, at, size, value);
@@ -757,7 +758,7 @@ fn refusals_name_the_tag() {
         (good.clone(), "16", 5, "page 16 is above 15, the highest that is read"),
         (good[..7].to_vec(), "0", 3, "the file's length is 7"),
         (changed(0, 2, 0), "0", 2, "the file begins with bytes"),
-        (changed(2, 2, 43), "0", 2, "43"),
+        (changed(2, 2, 43), "0", 2, "the number at byte 2 is 43, not TIFF's 42: the file is a BigTIFF"),
         (good.clone(), "1", 2, "page 1 is not there: the file has 1 page"),
         (changed(4, 4, 4000), "0", 3, "page 0: its directory is at byte 4000"),
         (changed(8, 2, 65), "0", 5, "page 0: the directory at byte 8 says 65 entries"),
@@ -768,6 +769,8 @@ fn refusals_name_the_tag() {
         (of(colours().with(257, &[1, 1])), "0", 2, "tag 257 (ImageLength)"),
         (changed(42, 4, 4000), "0", 3, "tag 258 (BitsPerSample)"),
         (of(colours().with(259, &[5])), "0", 1, "tag 259 (Compression): its value is 5"),
+        (of(colours().with(262, &[5])), "0", 1, "tag 262 (PhotometricInterpretation): its value is 5 (CMYK)"),
+        (of(tiled), "0", 2, "tag 273 (StripOffsets): it is missing, and tag 322 (TileWidth) is there"),
         (of(colours().with(278, &[0])), "0", 2, "tag 278 (RowsPerStrip)"),
         (of(colours().with(277, &[4])), "0", 2, "tag 277 (SamplesPerPixel)"),
         (of(Page::grey(2, 2, 4, &[&[0; 2]])), "0", 2, "tag 258 (BitsPerSample)"),
@@ -787,7 +790,7 @@ fn refusals_name_the_tag() {
             assert_eq!(folder.names(), ["in"], "{line}");
         }
     }
-    let words = "picture refused: 2 Invalid: page 1 is not there: the file has 1 page";
+    let words = "picture refused: 2 Invalid: page 1 is not there: the file has 1 page, page 0";
     folder.refused(&good, "picture in out --page 1", 2, words);
 }
 
@@ -810,6 +813,29 @@ strip 2: at byte 158 with 6 bytes it ends at byte 164, the file at byte 148 (3 T
     assert!(text.ends_with(strips), "{text}");
     let refused = format!("picture refused: 3 Truncated: {error}");
     folder.refused(&whole[..148], "picture in out", 3, &refused);
+}
+
+/// Tags that are not looked at are told, and change neither what is written nor the exit status.
+#[test]
+fn skipped_tags_are_told() {
+    let folder = Folder::new("skipped");
+    let page = Page::grey(9, 1, 1, &[&[0x80, 0x80]]).with(266, &[2]).with(274, &[6]);
+    folder.put("in", &tiff::file(ByteOrder::Big, &[page]));
+    let fill = "tag 266 (FillOrder) is 2: bits are taken as they stand\n";
+    let turned = "tag 274 (Orientation) is 6: rows are taken from the top, columns from the left\n";
+    let (status, text, error) = folder.run("info in");
+    assert_eq!((status, error.as_str()), (0, ""));
+    assert!(text.ends_with(&format!("\nnot looked at: {fill}not looked at: {turned}")), "{text}");
+    let warnings = format!("hamrisk: warning: {fill}hamrisk: warning: {turned}");
+    for (line, bytes) in [("picture in out", &[255, 0, 0, 0, 0, 0, 0, 0, 255][..]), ("samples in out", &[0x80, 0x80])] {
+        assert_eq!(folder.run(line), (0, String::new(), warnings.clone()));
+        assert_eq!(folder.get("out"), bytes);
+    }
+    let signed = Page::grey(1, 1, 16, &[&[0xFF, 0xFE]]).with(339, &[2]);
+    let (status, text, error) = folder.piped(&tiff::file(ByteOrder::Big, &[signed]), "samples - - --to be");
+    assert_eq!((status, &text[..]), (0, &[0xFF, 0xFE][..]));
+    let words = "tag 339 (SampleFormat) is 2 (with a sign): samples are taken as whole numbers without a sign";
+    assert_eq!(error, format!("hamrisk: warning: {words}\n"));
 }
 
 #[test]

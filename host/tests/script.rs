@@ -89,6 +89,10 @@ fn bare(name: &str, tools: &[&str]) -> Output {
     for file in ["hamrisk", "tools/machine"] {
         fs::copy(root().join(file), here.join(file)).expect("a file can be copied");
     }
+    // On another machine than the library's own, tools are looked for by their whole names, which no path hides.
+    let machine = fs::read_to_string(root().join("tools/machine")).expect("tools/machine is there");
+    let machine = machine.replace("/usr/bin", path.to_str().expect("the folder's name is text"));
+    fs::write(here.join("tools/machine"), machine).expect("a file can be written");
     for tool in ["sh", "dirname", "uname", "find", "head", "id"].iter().chain(tools) {
         let found = std::env::split_paths(&std::env::var_os("PATH").expect("there is a path"))
             .map(|p| p.join(tool))
@@ -114,13 +118,8 @@ fn without_the_toolchain_it_says_so() {
     );
 }
 
-/// On another machine than the library's own, tools are looked for by their whole names, which no path hides.
 #[test]
 fn without_apt_it_says_what_to_install() {
-    let machine = Command::new("uname").arg("-m").output().expect("uname is on the path").stdout;
-    if machine != b"x86_64\n" {
-        return;
-    }
     let output = bare("no-apt", &["rt"]);
     assert_eq!(output.status.code(), Some(69), "{}", said(&output));
     let words = said(&output);

@@ -1,7 +1,7 @@
 //! Directories: the library and the host's plain reading on a million spoiled files, refusal by refusal.
 
 use crate::lent::Lent;
-use crate::made::{made, made_with_wide_palette, Made};
+use crate::made::{made, made_with_wide_palette, made_without_rows, Made};
 use crate::numbers::{check, seven};
 use crate::random::Random;
 use crate::spoiled::spoiled;
@@ -76,6 +76,7 @@ fn kind(fault: &Fault) -> Kind {
 fn kind_of_tag(fault: &TagFault) -> &'static str {
     match fault {
         TagFault::Missing => "missing",
+        TagFault::Tiled => "tiles",
         TagFault::Type { .. } => "type",
         TagFault::Count { .. } => "count",
         TagFault::Room { .. } => "room",
@@ -113,7 +114,7 @@ const KINDS: [(u64, &[&str]); 14] = [
     (258, &["type", "count", "room", "value", "palette of 16 bits", "4 bits without palette", "1 bit, many samples"]),
     (259, &["type", "count", "value"]),
     (262, &["missing", "type", "count", "value"]),
-    (273, &["missing", "type", "count", "room"]),
+    (273, &["missing", "tiles", "type", "count", "room"]),
     (277, &["type", "count", "not 258's count", "not 262's samples"]),
     (278, &["type", "count", "no rows"]),
     (279, &["missing", "type", "count", "room", "not 273's count"]),
@@ -269,16 +270,20 @@ fn compare_many(seed: u64, files: usize) -> Tally {
         }
     }
     for _ in 0..4 {
-        let file = made_with_wide_palette(&mut random);
-        compare(&mut random, &file, &mut tally);
+        for rare in [made_with_wide_palette, made_without_rows] {
+            let file = rare(&mut random);
+            compare(&mut random, &file, &mut tally);
+        }
     }
     tally
 }
 
+const FILES: usize = 1_000_000;
+
 /// A million files, or as many as HAMRISK_FILES says.
 #[test]
 fn spoiled_files() {
-    let files = std::env::var("HAMRISK_FILES").map_or(1_000_000, |n| n.parse().expect("HAMRISK_FILES is a number"));
+    let files = std::env::var("HAMRISK_FILES").map_or(FILES, |n| n.parse().expect("HAMRISK_FILES is a number"));
     let mut tally = Tally::default();
     thread::scope(|scope| {
         let shares: Vec<_> = (0..8).map(|seed| scope.spawn(move || compare_many(50 + seed, files / 8))).collect();
@@ -286,11 +291,15 @@ fn spoiled_files() {
     });
     for (number, count) in tally.numbers.iter().enumerate() {
         println!("answer {number}: {count} times");
-        assert!(*count > 0, "answer {number} was never met");
     }
     for ((tag, what), count) in &tally.kinds {
         println!("{tag:3} {what}: {count} times");
     }
+    // fewer do not meet every fault
+    if files < FILES {
+        return;
+    }
+    assert!(tally.numbers.iter().all(|count| *count > 0), "an answer was never met");
     let mut all: Vec<Kind> = KINDS.iter().flat_map(|(tag, kinds)| kinds.iter().map(|&what| (*tag, what))).collect();
     all.sort();
     assert_eq!(tally.kinds.keys().copied().collect::<Vec<_>>(), all, "the faults that were met, and all there are");

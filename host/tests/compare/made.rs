@@ -128,8 +128,23 @@ pub fn made(random: &mut Random) -> Made {
 
 /// A file whose one page has a palette of 65,536 colours, more than a layout has.
 pub fn made_with_wide_palette(random: &mut Random) -> Made {
-    let mut made = Made { bytes: b"II*\0\0\0\0\0".to_vec(), little: true, pages: vec![] };
     let picture = Picture { bits: 16, kind: 3, alpha: None, planar: 1, ..served(random) };
+    made_of(random, picture)
+}
+
+/// A file whose one page has no rows, at times no 278 either, and a 284 that is not served: 278's default is not the rows.
+pub fn made_without_rows(random: &mut Random) -> Made {
+    let picture = Picture { h: 1, rows_per_strip: u64::from(u32::MAX), planar: 3, ..served(random) };
+    let mut made = made_of(random, picture);
+    let page = made.pages[0].clone();
+    let entry = page.tags.iter().position(|&tag| tag == 257).expect("a page has 257");
+    made.put(page.at + 2 + 12 * entry + 8, 0, 4);
+    made
+}
+
+/// A file of one page.
+fn made_of(random: &mut Random, picture: Picture) -> Made {
+    let mut made = Made { bytes: b"II*\0\0\0\0\0".to_vec(), little: true, pages: vec![] };
     made.add_page(random, picture, 4);
     made
 }

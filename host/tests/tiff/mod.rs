@@ -25,7 +25,7 @@ impl Page {
         self
     }
 
-    /// The tags in order; those of the strips, which begin at `place`, too unless the page has its own.
+    /// The tags in order; those of the strips, if there are any, which begin at `place`, too unless the page has its own.
     fn all_tags(&self, place: usize) -> Vec<(u16, Vec<u32>)> {
         let lengths: Vec<u32> = self.strips.iter().map(|strip| strip.len() as u32).collect();
         let starts = lengths.iter().scan(place as u32, |at, length| {
@@ -33,7 +33,7 @@ impl Page {
             Some(*at - length)
         });
         let mut tags = vec![(273, starts.collect()), (279, lengths.clone())];
-        tags.retain(|(tag, _)| self.tags.iter().all(|(own, _)| own != tag));
+        tags.retain(|(tag, _)| !lengths.is_empty() && self.tags.iter().all(|(own, _)| own != tag));
         tags.extend(self.tags.clone());
         tags.sort();
         tags

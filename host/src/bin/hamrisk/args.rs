@@ -52,7 +52,11 @@ impl Args {
         }
         if args.files.len() != syntax.files.len() {
             let wanted = if syntax.files.is_empty() { "no file".into() } else { syntax.files.join(" and ") };
-            return Err(args.wrong(format!("{wanted} wanted, {} files given", args.files.len())));
+            let given = match args.files.len() {
+                1 => "1 file".into(),
+                count => format!("{count} files"),
+            };
+            return Err(args.wrong(format!("{wanted} wanted, {given} given")));
         }
         Ok(args)
     }

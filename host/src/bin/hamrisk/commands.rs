@@ -99,7 +99,8 @@ pub const COMMANDS: &[Command] = &[
         notes:
             "Read are strips that are not compressed: grey or red, green and blue, of 8 or 16 bits, with 8 bits one\n\
                 alpha beside them; bilevel; palettes of 1, 4 or 8 bits; planes together or apart, predicted or not. A\n\
-                page with a strip that is not sound is refused, but what its directory says is printed.\n",
+                page with a strip that is not sound is refused, but what its directory says is printed. Tags that\n\
+                are not looked at, but give samples or rows another meaning, are named at the end.\n",
         run: pages::info,
     },
     Command {

@@ -1,7 +1,7 @@
 //! What is known of a page of a TIFF file, a line for each fact.
 
 use hamrisk::limits::MOST_PAGES;
-use hamrisk::{explain, explain_strip, ByteOrder, Fault, Layout, Page, Refusal};
+use hamrisk::{explain, explain_strip, skipped, ByteOrder, Fault, Layout, Page, Refusal};
 use std::ops::Range;
 
 /// What became of a strip: its place, or why it is refused.
@@ -28,6 +28,7 @@ pub fn of_page(file: &[u8], number: usize, page: &Page, strips: &[Placed]) -> St
     facts.push(("row bytes", page.geometry().row_bytes.to_string()));
     facts.push(("bytes of the samples", page.derived.scratch_length.to_string()));
     facts.push(("bytes of the picture", page.derived.output_length.to_string()));
+    facts.extend(skipped(file, number).iter().map(|tag| ("not looked at", tag.to_string())));
     facts.iter().map(|(name, value)| format!("{name}: {value}\n")).collect()
 }
 

@@ -5,7 +5,10 @@ use crate::facts::{self, Placed};
 use crate::failure::Failure;
 use crate::files;
 use crate::pictures::Form;
-use hamrisk::{check_layout, explain, explain_layout, placed, read_directory, strip_place, ByteOrder, Page, Refusal};
+use hamrisk::{
+    check_layout, explain, explain_layout, placed, read_directory, skipped, strip_place, ByteOrder, Page, Refusal,
+};
+use std::io::{stderr, Write};
 
 /// A file, and which page of it is asked for.
 struct Asked {
@@ -51,6 +54,14 @@ impl Asked {
         Failure::refused(self.call, refusal, Some((refusal, fault)))
     }
 
+    /// Says on standard error which tags are not looked at, though they give what is written another meaning.
+    fn warn(&self) {
+        for tag in skipped(&self.file, self.page) {
+            // That it cannot be told is no reason to end with another status.
+            let _ = writeln!(stderr(), "hamrisk: warning: {tag}");
+        }
+    }
+
     /// The refusal of a page that is in order, but for which there is no memory.
     fn too_large(&self, refusal: Refusal, bytes: usize) -> Failure {
         Failure::refused(self.call, refusal, Some((Refusal::Limit, format!("there is no memory for {bytes} bytes"))))
@@ -83,6 +94,7 @@ pub fn picture(args: &Args) -> Result<(), Failure> {
     let needed = page.derived.scratch_length + page.derived.output_length;
     let picture = hamrisk::picture(&asked.file, asked.page).map_err(|refusal| asked.too_large(refusal, needed))?;
     let (header, bytes) = form.of_rendered(&page.layout, picture.bytes);
+    asked.warn();
     files::write(args.file(1), &[header.as_bytes(), &bytes])
 }
 
@@ -92,6 +104,7 @@ pub fn samples(args: &Args) -> Result<(), Failure> {
     let order = order(args, &page)?;
     let samples = hamrisk::samples(&asked.file, asked.page, order)
         .map_err(|refusal| asked.too_large(refusal, page.derived.scratch_length))?;
+    asked.warn();
     files::write(args.file(1), &[&samples.bytes])
 }
 
