@@ -3,6 +3,7 @@ use crate::libtiff::Libtiff;
 use crate::{both, seconds};
 use hamrisk::{placed, read_directory, strip_place};
 use std::hint::black_box;
+use std::ops::Range;
 
 const SHORT: u16 = 3;
 const LONG: u16 = 4;
@@ -103,21 +104,15 @@ fn strips(file: &File) -> usize {
     (0..file.pages).map(|page| read_directory(black_box(&file.bytes), page).unwrap().strips).sum()
 }
 
-/// The place and length of every strip of every page, found at once.
-fn at_once(file: &File) -> Vec<(usize, usize)> {
-    let mut places = vec![];
-    for page in 0..file.pages {
-        let of_page = placed(black_box(&file.bytes), page).unwrap();
-        places.extend(of_page.iter().map(|place| (place.start, place.len())));
-    }
-    places
+/// The place of every strip of every page, found at once.
+fn at_once(file: &File) -> Vec<Vec<Range<usize>>> {
+    (0..file.pages).map(|page| placed(black_box(&file.bytes), page).unwrap()).collect()
 }
 
 /// The same, found one by one.
-fn one_by_one(file: &File, strips: usize) -> Vec<(usize, usize)> {
+fn one_by_one(file: &File, strips: usize) -> Vec<Range<usize>> {
     let of = |page, k| strip_place(black_box(&file.bytes), page, k).unwrap();
-    let all = (0..file.pages).flat_map(|page| (0..strips / file.pages).map(move |k| of(page, k)));
-    all.map(|place| (place.start, place.len())).collect()
+    (0..file.pages).flat_map(|page| (0..strips / file.pages).map(move |k| of(page, k))).collect()
 }
 
 /// A row for each file: microseconds, and how fast all places at once are as a part of what libtiff is.
@@ -127,14 +122,14 @@ pub fn print(libtiff: Option<&Libtiff>) {
     );
     println!("|---|---|---|---|---|---|");
     for file in files() {
-        let (name, places) = (&file.name, at_once(&file));
+        let (name, places) = (&file.name, at_once(&file).concat());
         assert!(one_by_one(&file, places.len()) == places && strips(&file) == places.len(), "{name}");
         let directory = seconds(|| assert!(strips(&file) > 0)) * 1e6;
         let each = seconds(|| assert!(!one_by_one(&file, places.len()).is_empty())) * 1e6;
         let ours = || assert!(!at_once(&file).is_empty());
         if let Some(libtiff) = libtiff {
             let mut theirs = libtiff.places(&file.bytes);
-            assert!(theirs() == places, "{name}");
+            assert!(theirs().iter().map(|(place, length)| *place..place + length).eq(places), "{name}");
             let (ours, theirs) = both(ours, || assert!(!theirs().is_empty()));
             let (all, rival, ratio) = (ours * 1e6, theirs * 1e6, theirs / ours);
             println!("| {name} | {directory:.1} | {all:.1} | {each:.1} | {rival:.1} | {ratio:.2} |");
