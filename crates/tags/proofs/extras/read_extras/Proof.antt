@@ -10,18 +10,18 @@ use native.Mathlib.Omega.{arith}
 use Rattle.tags.proofs.extras.read_extras.Statement.{statement}
 use Rattle.tags.proofs.extras.read_extras.Tie as tie
 
-is1 : (c : tie.After-field-from) → let args = c .before .before .args in c .field-from .result ≡ fieldOf (now (args .file)) (args .d) 317 1
-is1 c = let start = c .before .before in c .field-from .ensures ∙ field-next (now (start .args .file)) (start .args .d) _ 317 1 (start .pre)
+predictor-is : (c : tie.After-field-from) → let args = c .before .before .args in c .field-from .result ≡ fieldOf (now (args .file)) (args .d) 317 1
+predictor-is c = let start = c .before .before in c .field-from .ensures ∙ field-next (now (start .args .file)) (start .args .d) _ 317 1 (start .pre)
 
-is2 : (c : tie.After-field-from2) → let args = c .before .before .before .args in c .field-from2 .result ≡ fieldOf (now (args .file)) (args .d) 320 0
-is2 c = let start = c .before .before .before in next-field (now (start .args .file)) (start .args .d) (start .pre .room) 317 1 320 0 _ _ (omega arith) (is1 (c .before)) (c .field-from2 .ensures)
+map-is : (c : tie.After-field-from2) → let args = c .before .before .before .args in c .field-from2 .result ≡ fieldOf (now (args .file)) (args .d) 320 0
+map-is c = let start = c .before .before .before in next-field (now (start .args .file)) (start .args .d) (start .pre .room) 317 1 320 0 _ _ (omega arith) (predictor-is (c .before)) (c .field-from2 .ensures)
 
-is3 : (c : tie.After-field-from3) → let args = c .before .before .before .before .args in c .field-from3 .result ≡ fieldOf (now (args .file)) (args .d) 338 0
-is3 c = let start = c .before .before .before .before in next-field (now (start .args .file)) (start .args .d) (start .pre .room) 320 0 338 0 _ _ (omega arith) (is2 (c .before)) (c .field-from3 .ensures)
+extra-is : (c : tie.After-field-from3) → let args = c .before .before .before .before .args in c .field-from3 .result ≡ fieldOf (now (args .file)) (args .d) 338 0
+extra-is c = let start = c .before .before .before .before in next-field (now (start .args .file)) (start .args .d) (start .pre .room) 320 0 338 0 _ _ (omega arith) (map-is (c .before)) (c .field-from3 .ensures)
 
 returns : tie.Need-returns
 unfolding extrasOf
-returns c = rw (is1 (c .before .before), is2 (c .before), is3 c)
+returns c = rw (predictor-is (c .before .before), map-is (c .before), extra-is c)
 
 pub read-extras-spec : {M : Type 1} → statement M
 read-extras-spec =

@@ -9,24 +9,24 @@ use native.Mathlib.Omega.{arith}
 use Rattle.tags.proofs.shape.read_shape.Statement.{statement}
 use Rattle.tags.proofs.shape.read_shape.Tie as tie
 
-is1 : (c : tie.After-field-from) → let args = c .before .before .args in c .field-from .result ≡ fieldOf (now (args .file)) (args .d) 256 0
-is1 c = c .field-from .ensures
+width-is : (c : tie.After-field-from) → let args = c .before .before .args in c .field-from .result ≡ fieldOf (now (args .file)) (args .d) 256 0
+width-is c = c .field-from .ensures
 
-is2 : (c : tie.After-field-from2) → let args = c .before .before .before .args in c .field-from2 .result ≡ fieldOf (now (args .file)) (args .d) 257 0
-is2 c = let start = c .before .before .before in next-field (now (start .args .file)) (start .args .d) (start .pre) 256 0 257 0 _ _ (omega arith) (is1 (c .before)) (c .field-from2 .ensures)
+height-is : (c : tie.After-field-from2) → let args = c .before .before .before .args in c .field-from2 .result ≡ fieldOf (now (args .file)) (args .d) 257 0
+height-is c = let start = c .before .before .before in next-field (now (start .args .file)) (start .args .d) (start .pre) 256 0 257 0 _ _ (omega arith) (width-is (c .before)) (c .field-from2 .ensures)
 
-is3 : (c : tie.After-field-from3) → let args = c .before .before .before .before .args in c .field-from3 .result ≡ fieldOf (now (args .file)) (args .d) 258 1
-is3 c = let start = c .before .before .before .before in next-field (now (start .args .file)) (start .args .d) (start .pre) 257 0 258 1 _ _ (omega arith) (is2 (c .before)) (c .field-from3 .ensures)
+bits-is : (c : tie.After-field-from3) → let args = c .before .before .before .before .args in c .field-from3 .result ≡ fieldOf (now (args .file)) (args .d) 258 1
+bits-is c = let start = c .before .before .before .before in next-field (now (start .args .file)) (start .args .d) (start .pre) 257 0 258 1 _ _ (omega arith) (height-is (c .before)) (c .field-from3 .ensures)
 
-is4 : (c : tie.After-field-from4) → let args = c .before .before .before .before .before .args in c .field-from4 .result ≡ fieldOf (now (args .file)) (args .d) 259 1
-is4 c = let start = c .before .before .before .before .before in next-field (now (start .args .file)) (start .args .d) (start .pre) 258 1 259 1 _ _ (omega arith) (is3 (c .before)) (c .field-from4 .ensures)
+compression-is : (c : tie.After-field-from4) → let args = c .before .before .before .before .before .args in c .field-from4 .result ≡ fieldOf (now (args .file)) (args .d) 259 1
+compression-is c = let start = c .before .before .before .before .before in next-field (now (start .args .file)) (start .args .d) (start .pre) 258 1 259 1 _ _ (omega arith) (bits-is (c .before)) (c .field-from4 .ensures)
 
-is5 : (c : tie.After-field-from5) → let args = c .before .before .before .before .before .before .args in c .field-from5 .result ≡ fieldOf (now (args .file)) (args .d) 262 0
-is5 c = let start = c .before .before .before .before .before .before in next-field (now (start .args .file)) (start .args .d) (start .pre) 259 1 262 0 _ _ (omega arith) (is4 (c .before)) (c .field-from5 .ensures)
+photometric-is : (c : tie.After-field-from5) → let args = c .before .before .before .before .before .before .args in c .field-from5 .result ≡ fieldOf (now (args .file)) (args .d) 262 0
+photometric-is c = let start = c .before .before .before .before .before .before in next-field (now (start .args .file)) (start .args .d) (start .pre) 259 1 262 0 _ _ (omega arith) (compression-is (c .before)) (c .field-from5 .ensures)
 
 returns : tie.Need-returns
 unfolding shapeOf
-returns c = rw (is1 (c .before .before .before .before), is2 (c .before .before .before), is3 (c .before .before), is4 (c .before), is5 c)
+returns c = rw (width-is (c .before .before .before .before), height-is (c .before .before .before), bits-is (c .before .before), compression-is (c .before), photometric-is c)
 
 pub read-shape-spec : {M : Type 1} → statement M
 read-shape-spec =
