@@ -4,14 +4,14 @@ use directory::Found;
 use directory::Page;
 use directory::Place;
 ghost use mathlib.Core.Path.{_≡_};
-ghost use Rattle.answer.specs.Outcome.{pick, doneOutcome};
+ghost use Rattle.answer.specs.Outcome.{doneOutcome};
 ghost use Rattle.directory.specs.Page.{DirectoryRead, StripPlaced, StripsPlaced};
 ghost use Rattle.capi.specs.Told.{Told, Lent};
-ghost use Rattle.capi.specs.OnPages.{numbersOf, foundNumbers, placeNumbers};
+ghost use Rattle.capi.specs.OnPages.{flagOf, numbersOf, foundNumbers, placeNumbers};
 
 // A flag as a number.
 fn flag(on: bool) -> usize
-    ensures { λ r. ⌜ r ≡ pick on 1 0 ⌝ }
+    ensures { λ r. ⌜ r ≡ flagOf on ⌝ }
 {
     match on {
         true => 1,

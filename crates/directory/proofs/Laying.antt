@@ -1,37 +1,28 @@
 -- The layout of a page: what the layout check says of it, and that its rows are short. Assumes nothing.
 use Prim.Native.Nat.{_*_, _<_, ℕ}
-use Rattle.answer.proofs.Promised.{done-sound, done-value, first-more, refused-told, refusing, sound-skip}
-use Rattle.answer.specs.Outcome.{First, Sound, done, number, unless}
+use Rattle.answer.proofs.Promised.{first-more, refusing, sound-skip}
+use Rattle.answer.specs.Outcome.{Sound, unless}
 use Rattle.answer.specs.declared.Refusal.{Refusal}
 use Rattle.directory.specs.Page.{pageFaults}
 use Rattle.directory.specs.Parts.{PageOpened, SmallRow, openingOutcome, wholeBy}
 use Rattle.directory.specs.declared.pages.Opening.{Opening}
 use Rattle.entries.specs.Entries.{directory}
 use Rattle.entries.specs.declared.Directory.{Directory}
+use Rattle.laws.proofs.Faults.{answered, declined}
 use Rattle.layout.proofs.Accepted.{accepted}
 use Rattle.layout.proofs.Sizes.{encoded-side, plane-few}
-use Rattle.layout.specs.Layout.{LayoutChecked, checkedOutcome, completed, encodedWidth, layoutFaults, planeChannels}
-use Rattle.layout.specs.declared.Checked.{Checked}
+use Rattle.layout.specs.Layout.{completed, encodedWidth, layoutFaults, planeChannels}
 use Rattle.layout.specs.declared.Fields.{Fields}
 use Rattle.layout.specs.declared.RasterLayout.{RasterLayout}
 use Rattle.tags.specs.Tags.{TagsRead, readOutcome, tagFaults, tagsOf}
 use Rattle.tags.specs.declared.Read.{Read}
 use Rattle.tags.specs.declared.Tags.{Tags}
 use mathlib.Core.List.{List, _++_}
-use mathlib.Core.Path.{_∙_, _≡_, ap, sym}
+use mathlib.Core.Path.{_∙_, _≡_, refl, sym}
 use native.Mathlib.Nat.{mul-le-mul}
 use native.Mathlib.Omega.{arith}
 use Rattle.directory.specs.declared.pages.Opening.the-variants as Opening-is
-use Rattle.layout.specs.declared.Checked.the-variants as Checked-is
 use Rattle.tags.specs.declared.Read.the-variants as Read-is
-
-pub laid : (f : Fields) (r : Checked) (l : RasterLayout) → LayoutChecked f r → r ≡ Checked-is.Done l → (l ≡ completed f) × Sound (layoutFaults f)
-laid f r l p e =
-    let q : unless (layoutFaults f) (completed f) ≡ done l = sym p ∙ ap checkedOutcome e in
-    (sym (done-value (layoutFaults f) (completed f) l q), done-sound (layoutFaults f) (completed f) l q)
-
-pub unlaid : (f : Fields) (r : Checked) (k : Refusal) → LayoutChecked f r → r ≡ Checked-is.Refused k → First (layoutFaults f) (number k)
-unlaid f r k p e = refused-told (layoutFaults f) (completed f) k (sym (ap checkedOutcome e) ∙ p)
 
 row-small : (f : Fields) → Sound (layoutFaults f) → encodedWidth f * planeChannels f < 4294967296
 row-small f s = omega (arith, mul-le-mul (encoded-side f (accepted f s)) (plane-few f (accepted f s)))
@@ -46,11 +37,10 @@ module _ (file : List ℕ) (page : ℕ) (o : Read) (p : TagsRead file page o) wh
 
   pub tags-refused : (k : Refusal) → o ≡ Read-is.Refused k → PageOpened file page (Opening-is.Refused k)
   unfolding pageFaults
-  tags-refused k e = refusing (tagFaults file page ++ layoutFaults (tagsOf file d .fields)) _ (first-more _ (refused-told (tagFaults file page) (tagsOf file d) k (sym (ap readOutcome e) ∙ p)))
+  tags-refused k e = refusing (tagFaults file page ++ layoutFaults (tagsOf file d .fields)) _ (first-more _ (declined readOutcome (tagFaults file page) (tagsOf file d) p e refl))
 
   pub tags-laid : (t : Tags) (r : Opening) → o ≡ Read-is.Tags t → openingOutcome r ≡ unless (layoutFaults (t .fields)) (wholeBy t) → PageOpened file page r
   unfolding pageFaults
   tags-laid t r e q =
-      let told : unless (tagFaults file page) (tagsOf file d) ≡ done t = sym p ∙ ap readOutcome e in
-      let is : t ≡ tagsOf file d = sym (done-value (tagFaults file page) (tagsOf file d) t told) in
-      rw is at q ∙ sym (sound-skip (layoutFaults (tagsOf file d .fields)) _ (done-sound (tagFaults file page) (tagsOf file d) t told))
+      let found = answered readOutcome (tagFaults file page) (tagsOf file d) p e refl in
+      rw (found .0) at q ∙ sym (sound-skip (layoutFaults (tagsOf file d .fields)) _ (found .1))

@@ -1,7 +1,6 @@
 -- A strip is the part of the file that its place says; where a page is accepted every strip of it is found, and their lengths add up to the
 -- layout's scratch length, so that all strips end to end are planes that `render` takes. Assumes nothing.
 use Prim.Native.Nat.{_%_, _*_, _+_, _-_, _<_, _≤_, suc, zero, ℕ}
-use Rattle.answer.proofs.Filling.{part}
 use Rattle.answer.proofs.Promised.{done-sound, done-value, sound-back, sound-done, sound-front, sound-here, sound-more, sound-rest}
 use Rattle.answer.specs.Outcome.{Sound, done, next, pick, unless}
 use Rattle.answer.specs.declared.ByteAt.{ByteAt}
@@ -11,6 +10,7 @@ use Rattle.directory.specs.declared.Page.{Page}
 use Rattle.directory.specs.declared.Place.{Place}
 use Rattle.entries.specs.Entries.{directory, openFaults}
 use Rattle.entries.specs.declared.Directory.{Directory}
+use Rattle.laws.proofs.Faults.{answered}
 use Rattle.laws.proofs.Turns.{sum-again, sum-same, sum-times, turn-sound}
 use Rattle.laws.specs.Turns.{sum}
 use Rattle.layout.proofs.Accepted.{Accepted, accepted, up-to-eight}
@@ -164,14 +164,12 @@ unfolding stripFaults
 strip-some file page k r s at n p q e =
     let d = directory file page in
     let strips = pageStrips file d in
-    let part = stripPart file strips k in
-    let told : placed file page k ≡ done (record { at = at .0; bytes = n }) = sym p ∙ ap placeOutcome e in
-    let is : part ≡ record { at = at .0; bytes = n } = done-value (placeFaults file page k) part _ told in
-    let all = done-sound (placeFaults file page k) part _ told in
+    let found = answered placeOutcome (placeFaults file page k) (stripPart file strips k) p e refl in
+    let all = found .1 in
     let sound = sound-front (pageFaults file page) _ all in
     let right : stripLength file strips k ≡ stripRows (strips .rows) (strips .each) k * strips .row = eqb-true _ _ (not-false _ (sound-here (sound-rest (sound-back (pageFaults file page) _ all)))) in
     let some = some-bytes file d k (page-layout file page sound) (page-said file page sound) in
-    let n-is : stripLength file strips k ≡ n = ap (λ (x : Part). x .bytes) is in
+    let n-is : n ≡ stripLength file strips k = ap (λ (x : Part). x .bytes) (found .0) in
     let room = inside file page k r p at n e in
     let s-is : s ≡ take n (drop (at .0) file) = strip-is file page k r s p q ∙ ap (λ (x : Place). cut file (placeOutcome x)) e in
     (rw s-is (simp (length-take, length-drop) (omega arith)), omega (arith, right, some, n-is))

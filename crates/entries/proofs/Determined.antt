@@ -3,7 +3,7 @@ use Prim.Native.Nat.{ℕ}
 use Rattle.answer.proofs.Promised.{done-once, kind, kind-number, once}
 use Rattle.answer.specs.Outcome.{Outcome, Step, done, refused}
 use Rattle.answer.specs.declared.Done.{Done}
-use Rattle.entries.specs.Entries.{PageOpened, fieldFaults, fieldFrom, openedOutcome, valueOf}
+use Rattle.entries.specs.Entries.{DirectoryOpened, fieldFaults, fieldFrom, openedOutcome, valueOf}
 use Rattle.entries.specs.declared.Directory.{Directory}
 use Rattle.entries.specs.declared.Field.{Field}
 use Rattle.entries.specs.declared.Opened.{Opened}
@@ -20,7 +20,7 @@ opened-told : (a : Opened) → opened-back (openedOutcome a) ≡ a
 opened-told (Opened-is.At d) = refl
 opened-told (Opened-is.Refused k) = ap Opened-is.Refused (kind-number k)
 
-pub open-directory-determined : (file : List ℕ) (page : ℕ) (a b : Opened) → PageOpened file page a → PageOpened file page b → a ≡ b
+pub open-directory-determined : (file : List ℕ) (page : ℕ) (a b : Opened) → DirectoryOpened file page a → DirectoryOpened file page b → a ≡ b
 open-directory-determined file page a b p q = once openedOutcome opened-back opened-told a b (p ∙ sym q)
 
 pub field-from-determined : (file : List ℕ) (d : Directory) (from tag default : ℕ) (a b : Field) → a ≡ fieldFrom file d from tag default → b ≡ fieldFrom file d from tag default → a ≡ b

@@ -57,10 +57,7 @@ seek-lower t tag i (suc m) j l h = by (decLt (t i) tag) (seek-lower t tag (i + 1
     by (yes low) rest = beyond low (decLt i j) rest
     by (no g) rest = absurd (let z : j < i = rw (le-ltb (t i) tag (omega arith)) at h in omega arith)
 
--- where the search for the first tag begins, and that for the next
-pub from-start : (file : List ℕ) (d : Directory) (tag : ℕ) → Room file d → From file d 0 tag
-from-start file d tag room = record { room = room; within = omega arith; lower = λ j h. absurd (omega arith) }
-
+-- where the search for the next tag begins
 field-entry : (file : List ℕ) (d : Directory) (tag default : ℕ) → Room file d → fieldOf file d tag default .entry ≡ entryFrom file d 0 tag
 unfolding fieldFrom
 field-entry file d tag default room = rw (le-ltb (length file) (directoryEnd d) room) (by (isThere file d tag (entryFrom file d 0 tag)))

@@ -168,5 +168,5 @@ abbrev pub openedOutcome : Opened → Outcome Directory
 openedOutcome (Opened-is.At d) = done d
 openedOutcome (Opened-is.Refused k) = refused (number k)
 
-abbrev pub PageOpened : List ℕ → ℕ → Opened → Type 0
-PageOpened file page answer = openedOutcome answer ≡ unless (openFaults file page) (directory file page)
+abbrev pub DirectoryOpened : List ℕ → ℕ → Opened → Type 0
+DirectoryOpened file page answer = openedOutcome answer ≡ unless (openFaults file page) (directory file page)

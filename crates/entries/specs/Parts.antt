@@ -22,5 +22,5 @@ pub record From (file : List ℕ) (d : Directory) (from tag : ℕ) : Type 0 wher
   pub within : from ≤ d .n
   pub lower : (j : ℕ) → j < from → tagAt file d j < tag
 
-abbrev pub DirectoryOpened : List ℕ → Bool → ℕ → Opened → Type 0
-DirectoryOpened file le at answer = let d = directoryAt file le at in openedOutcome answer ≡ unless (directoryFaults file d) d
+abbrev pub OpenedAt : List ℕ → Bool → ℕ → Opened → Type 0
+OpenedAt file le at answer = let d = directoryAt file le at in openedOutcome answer ≡ unless (directoryFaults file d) d

@@ -15,7 +15,7 @@ ghost use mathlib.Core.Path.{_≡_};
 ghost use Prim.Native.Nat.{_+_, _≤_};
 ghost use lib.ListN.{length};
 ghost use Rattle.answer.specs.Outcome.{Step};
-ghost use Rattle.entries.specs.Entries.{tagAt, entryFrom, isThere, valuesAt, numberAt, fieldAt, missing as missingOf, fieldFrom, valueOf, fieldFaults, PageOpened};
+ghost use Rattle.entries.specs.Entries.{tagAt, entryFrom, isThere, valuesAt, numberAt, fieldAt, missing as missingOf, fieldFrom, valueOf, fieldFaults, DirectoryOpened};
 ghost use Rattle.entries.specs.Parts.{Room, Entry};
 
 // A directory: its byte order, its place, and how many entries it has.
@@ -49,7 +49,7 @@ const LONG: u16 = 4;
 
 // The directory of a page.
 pub fn open_directory(file: &[u8], page: usize) -> Opened
-    ensures { λ r. ⌜ PageOpened (now (file .entry)) page r ⌝ }
+    ensures { λ r. ⌜ DirectoryOpened (now (file .entry)) page r ⌝ }
 {
     match walk::check_header(file, page) {
         Done::Refused(k) => Opened::Refused(k),

@@ -14,7 +14,7 @@ ghost use lib.ListN.{length};
 ghost use Rattle.answer.specs.Outcome.{unless, Step};
 ghost use Rattle.laws.specs.Turns.{faultsBelow};
 ghost use Rattle.entries.specs.Entries.{nextPlace, ascending as ascendingOf, headerFaults, onTheWay, directoryAt, place, openedOutcome};
-ghost use Rattle.entries.specs.Parts.{Room, DirectoryOpened};
+ghost use Rattle.entries.specs.Parts.{Room, OpenedAt};
 
 // The highest number of a page.
 const LAST_PAGE: usize = 15;
@@ -69,7 +69,7 @@ fn ascending(file: &[u8], d: Directory) -> bool
 
 // The directory at a place.
 fn open_at(file: &[u8], le: bool, at: u32) -> Opened
-    ensures { λ r. ⌜ DirectoryOpened (now (file .entry)) le at r ⌝ }
+    ensures { λ r. ⌜ OpenedAt (now (file .entry)) le at r ⌝ }
 {
     if at == 0 {
         return Opened::Refused(Refusal::Invalid);

@@ -1,9 +1,10 @@
--- A list of faults of which the first ones were looked for and not found. Assumes nothing.
-use mathlib.Core.Path.{_≡_}
+-- A list of faults of which the first ones were looked for and not found; and what an answer says of the faults that its promise lists. Assumes nothing.
+use mathlib.Core.Path.{_≡_, sym, ap, _∙_}
 use mathlib.Core.Bool.{false}
 use mathlib.Core.List.{List, _∷_}
 use Prim.Native.Nat.{ℕ}
-use Rattle.answer.specs.Outcome.{Fault, First, later, Sound, next}
+use Rattle.answer.specs.Outcome.{Outcome, done, refused, Fault, unless, First, later, Sound, next}
+use Rattle.answer.proofs.Promised.{done-value, done-sound, refused-first}
 
 -- the faults fs, of which those before gs are not found
 pub record Past (fs gs : List Fault) : Type 0 where
@@ -15,3 +16,12 @@ past-none fs = record { first = λ r. r; sound = λ s. s }
 
 pub past-one : {fs : List Fault} {f : Fault} {gs : List Fault} → Past fs (f ∷ gs) → f .found ≡ false → Past fs gs
 past-one p e = record { first = λ r. p .first (later e r); sound = λ s. p .sound (next e s) }
+
+-- an answer that is the work: no fault was found; one that is a refusal: the first fault's
+module _ {R A : Type 0} (outcome : R → Outcome A) (fs : List Fault) (a : A) {r known : R} (promised : outcome r ≡ unless fs a) (e : r ≡ known) where
+  pub answered : {v : A} → outcome known ≡ done v → (v ≡ a) × Sound fs
+  answered {v} is =
+      let told : unless fs a ≡ done v = sym promised ∙ ap outcome e ∙ is in (sym (done-value fs a v told), done-sound fs a v told)
+
+  pub declined : {n : ℕ} → outcome known ≡ refused n → First fs n
+  declined {n} is = refused-first fs a n (sym promised ∙ ap outcome e ∙ is)

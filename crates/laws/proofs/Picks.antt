@@ -2,7 +2,6 @@
 use Prim.Native.Nat.{ℕ, _<_}
 use mathlib.Core.Path.{_≡_, refl}
 use mathlib.Core.Bool.{Bool, true, false}
-use native.Mathlib.Omega.{arith}
 use Rattle.answer.specs.Outcome.{pick, xor}
 
 pub picked : {b : Bool} (x y : ℕ) → b ≡ true → pick b x y ≡ x
@@ -11,9 +10,10 @@ picked x y e = rw e
 pub not-picked : {b : Bool} (x y : ℕ) → b ≡ false → pick b x y ≡ y
 not-picked x y e = rw e
 
-pub pick-below : (b : Bool) {v : ℕ} → v < 2 → pick b v 0 < 2
-pick-below true h = h
-pick-below false h = omega arith
+-- what bounds both bounds the one that is picked
+pub pick-below : (b : Bool) {x y n : ℕ} → x < n → y < n → pick b x y < n
+pick-below true hx hy = hx
+pick-below false hx hy = hy
 
 -- the same either way
 pub pick-same : {A : Type 0} (b : Bool) (x : A) → pick b x x ≡ x

@@ -103,7 +103,7 @@ module _ (l : RasterLayout) (s : Sound (recordFaults l)) (off : l .fields .palet
         let room : x / 8 < l .«encoded_width» = rw eight at (row-within l s x h) in
         let here : 8 * (x / 8) + (7 - (7 - x % 8)) ≡ x = omega arith in
         rw (group-of y (l .«encoded_width») room, item-of y (l .«encoded_width») room)
-        (digit-value 2 8 (λ p. pick (ltb (8 * (x / 8) + (7 - p)) (l .fields .w)) (bilevelBit (l .fields .white) (getD picture (y * l .fields .w + (8 * (x / 8) + (7 - p))) 0)) 0) (λ p q. pick-below (ltb (8 * (x / 8) + (7 - p)) (l .fields .w)) (bit-below (l .fields .white) (getD picture (y * l .fields .w + (8 * (x / 8) + (7 - p))) 0))) (7 - x % 8) (omega arith)
+        (digit-value 2 8 (λ p. pick (ltb (8 * (x / 8) + (7 - p)) (l .fields .w)) (bilevelBit (l .fields .white) (getD picture (y * l .fields .w + (8 * (x / 8) + (7 - p))) 0)) 0) (λ p q. pick-below (ltb (8 * (x / 8) + (7 - p)) (l .fields .w)) (bit-below (l .fields .white) (getD picture (y * l .fields .w + (8 * (x / 8) + (7 - p))) 0)) (omega arith)) (7 - x % 8) (omega arith)
         ∙ rw (here, lt-ltb x (l .fields .w) h))
 
     -- rendered from what was written

@@ -2,7 +2,7 @@
 use Prim.Native.Nat.{ℕ}
 use mathlib.Core.Path.{_≡_}
 use mathlib.Core.List.{List}
-use Rattle.answer.specs.Outcome.{unless, Sound}
+use Rattle.answer.specs.Outcome.{unless}
 use Rattle.entries.specs.declared.Directory.{Directory}
 use Rattle.entries.specs.Parts.{Room}
 use Rattle.tags.specs.declared.shape.Shape.{Shape}
@@ -18,5 +18,5 @@ pub record Shaped (file : List ℕ) (d : Directory) (s : Shape) : Type 0 where
 abbrev pub LaterRead : List ℕ → Directory → Read → Type 0
 LaterRead file d answer = readOutcome answer ≡ unless (laterFaults file d) (tagsOf file d)
 
-abbrev pub DirectoryRead : List ℕ → Directory → Read → Type 0
-DirectoryRead file d answer = readOutcome answer ≡ unless (saidFaults file d) (tagsOf file d)
+abbrev pub UsedRead : List ℕ → Directory → Read → Type 0
+UsedRead file d answer = readOutcome answer ≡ unless (saidFaults file d) (tagsOf file d)

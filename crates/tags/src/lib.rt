@@ -19,7 +19,7 @@ ghost use mathlib.Core.Path.{_≡_};
 ghost use Rattle.answer.specs.Outcome.{pick};
 ghost use Rattle.entries.specs.Parts.{Room};
 ghost use Rattle.tags.specs.Tags.{stripsPerPlane, sampleBytes, samplesInByte, fieldsBy, tagsBy, TagsRead};
-ghost use Rattle.tags.specs.Parts.{Shaped, LaterRead, DirectoryRead};
+ghost use Rattle.tags.specs.Parts.{Shaped, LaterRead, UsedRead};
 
 // What a page's tags say: its layout, its predictor, its rows and those of a strip, and where its strips' places and lengths stand.
 pub struct Tags {
@@ -131,9 +131,9 @@ fn read_later(file: &[u8], d: Directory, s: Shape) -> Read
 }
 
 // The tags of a directory.
-fn read_directory(file: &[u8], d: Directory) -> Read
+fn read_used(file: &[u8], d: Directory) -> Read
     requires { ⌜ Room (now file) d ⌝ }
-    ensures { λ r. ⌜ DirectoryRead (now (file .entry)) d r ⌝ }
+    ensures { λ r. ⌜ UsedRead (now (file .entry)) d r ⌝ }
 {
     let s = shape::read_shape(file, d);
     match shape::check_shape(file, d.le, s) {
@@ -148,6 +148,6 @@ pub fn read_tags(file: &[u8], page: usize) -> Read
 {
     match entries::open_directory(file, page) {
         Opened::Refused(k) => Read::Refused(k),
-        Opened::At(d) => read_directory(file, d),
+        Opened::At(d) => read_used(file, d),
     }
 }

@@ -1,6 +1,6 @@
 -- `tags::read_tags` meets its contract: the way to the directory, then its tags. Assumes nothing.
 use Rattle.answer.proofs.Promised.{first-more, refusing, sound-skip}
-use Rattle.entries.proofs.Walking.{page-is, page-room, page-sound, page-unopened}
+use Rattle.entries.proofs.Walking.{page-found, page-room, page-unopened}
 use Rattle.entries.specs.Entries.{directory}
 use Rattle.tags.specs.Tags.{saidFaults, tagFaults}
 use borrow.Author.Needs.{needs}
@@ -29,4 +29,5 @@ read-tags-spec =
     let opened = told .before .before in
     let args = opened .before .before .args in
     let file = now (args .file) in
-    rw (page-is file (args .page) (opened .open-directory .result) (opened .open-directory .ensures) _ (told .d .given .1)) at (c .read-directory .ensures) ∙ sym (sound-skip (saidFaults file (directory file (args .page))) _ (page-sound file (args .page) (opened .open-directory .result) (opened .open-directory .ensures) _ (told .d .given .1)))))
+    let found = page-found file (args .page) (opened .open-directory .result) (opened .open-directory .ensures) _ (told .d .given .1) in
+    rw (found .0) at (c .read-used .ensures) ∙ sym (sound-skip (saidFaults file (directory file (args .page))) _ (found .1))))

@@ -1,11 +1,11 @@
--- `tags::read_directory` meets its contract: the tags up to 262, then what is left. Assumes nothing.
+-- `tags::read_used` meets its contract: the tags up to 262, then what is left. Assumes nothing.
 use Rattle.answer.proofs.Promised.{first-more, refusing, sound-skip, step-first, step-sound}
 use Rattle.tags.specs.Tags.{laterFaults, saidFaults}
 use borrow.Author.Needs.{needs}
 use denote.Ref.{now}
 use mathlib.Core.Path.{_∙_, sym}
-use Rattle.tags.proofs.read_directory.Statement.{statement}
-use Rattle.tags.proofs.read_directory.Tie as tie
+use Rattle.tags.proofs.read_used.Statement.{statement}
+use Rattle.tags.proofs.read_used.Tie as tie
 
 returns : tie.Need-returns
 unfolding saidFaults
@@ -25,8 +25,8 @@ returns-2 c =
     let args = shape .before .before .args in
     c .read-later .ensures ∙ sym (sound-skip (laterFaults (now (args .file)) (args .d)) _ (step-sound (rw (shape .read-shape .ensures) at (check .check-shape .ensures)) (told .enum-told .given .1)))
 
-pub read-directory-spec : {M : Type 1} → statement M
-read-directory-spec =
+pub read-used-spec : {M : Type 1} → statement M
+read-used-spec =
     tie.close
     (tie.spec
     (λ c κs. search needs) (λ c κs. search needs) (λ c. search needs) (λ c. search needs)
