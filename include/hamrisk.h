@@ -144,7 +144,8 @@ uint32_t hamrisk_check_layout(const hamrisk_layout *layout, size_t *derived);
 uint32_t hamrisk_index(const hamrisk_layout *layout, size_t k, size_t *place);
 
 /*
- * The picture that the planes `raw` hold. `file` has the palette, and is not read without one.
+ * The picture that the planes `raw` hold. `file` has the palette, and is not read without one. With alpha 1 a colour u beside
+ * alpha a is divided by it again: 255 * u / a to the nearest whole number, halves upward, at most 255, and 0 if a is 0.
  * Refuses: as hamrisk_check_layout; bytes 8: 1; with palette map + 6 * colours past file_len: 3;
  *          raw_len below the scratch length: 3; out_len below the output length: 4.
  * Writes: output length bytes of out.

@@ -233,7 +233,7 @@ fn colour(v: u8, a: u8, multiplied: bool, white: bool) -> u8 {
     } else if a == 0 {
         0
     } else {
-        (255 * u as u16 / a as u16).min(255) as u8
+        ((255 * u as u32 + a as u32 / 2) / a as u32).min(255) as u8
     }
 }
 

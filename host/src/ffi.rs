@@ -350,7 +350,8 @@ pub fn index(layout: &Layout, k: ByteAt) -> Result<ByteAt, Refusal> {
 }
 
 /// The picture that the planes `raw` hold. `file` has the palette, and is not read without one. Samples of two bytes
-/// come out most significant byte first.
+/// come out most significant byte first. With alpha 1 a colour u beside alpha a is divided by it again: 255 × u / a to the
+/// nearest whole number, halves upward, at most 255, and 0 if a is 0.
 ///
 /// Refuses: as [`check_layout`]; then bytes 8 is Unsupported; with a palette, map + 6 × colours past the end of `file` is
 /// Truncated; `raw` shorter than the scratch length is Truncated; `out` shorter than the output length is

@@ -1,7 +1,7 @@
 -- Turns of a loop: the first that has a fault decides, with none the whole is sound; tests and sums turn by turn. Assumes nothing.
 use Prim.Native.Nat.{ℕ, zero, suc, _+_, _*_, _%_, _<_}
 use mathlib.Core.Path.{_≡_, refl, sym, ap, _∙_}
-use mathlib.Core.Bool.{Bool, _&&_}
+use mathlib.Core.Bool.{Bool, true, false, _&&_}
 use mathlib.Core.List.{List, _++_}
 use native.Mathlib.Decide.{decLt}
 use native.Mathlib.Nat.{add-mul, zero-mul, mul-zero, mul-suc, add-assoc, add-zero, add-suc, mod-eq-of-lt, mul-add-mod-self-left}
@@ -10,10 +10,19 @@ use native.Mathlib.Omega.{arith}
 use Rattle.answer.specs.Outcome.{Fault, Sound, First}
 use Rattle.answer.proofs.Promised.{first-more, sound-then, sound-more, sound-front, sound-back}
 use Rattle.laws.specs.Turns.{every, faultsBelow, sum}
+use Rattle.laws.proofs.Says.{clash, one-fails}
 
 -- a turn more of a test
 pub every-more : (n : ℕ) (t : ℕ → Bool) {so-far now : Bool} → so-far ≡ every n t → now ≡ t n → (so-far && now) ≡ every (n + 1) t
 every-more n t e h = rw (add-one n, e, h)
+
+-- a test that holds at every turn holds at each
+pub every-one : (n : ℕ) (t : ℕ → Bool) → every n t ≡ true → (k : ℕ) → k < n → t k ≡ true
+every-one n t e k h = by (t k) refl
+  where
+    by : (b : Bool) → t k ≡ b → t k ≡ true
+    by true is = is
+    by false is = clash e (one-fails (λ m. every m t) t (λ m. refl) n k h is)
 
 -- the first turn that has a fault decides
 pub turn-first : (n : ℕ) (f : ℕ → List Fault) (k : ℕ) {r : ℕ} → k < n → Sound (faultsBelow k f) → First (f k) r → First (faultsBelow n f) r

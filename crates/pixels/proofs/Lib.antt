@@ -1,3 +1,4 @@
+pub mod Nearest
 pub mod Straight
 pub mod Pixels
 pub mod HighFirst

@@ -25,9 +25,13 @@ planeRow l = l .«encoded_width» * l .«plane_channels»
 abbrev pub flipped : Bool → ℕ → ℕ
 flipped white v = pick white (255 - v) v
 
+-- n / d to nearest, halves upward: n / d and a half, rounded down
+abbrev pub nearest : ℕ → ℕ → ℕ
+nearest n d = (2 * n + d) / (2 * d)
+
 -- alpha kind 1: the colour u of a pixel that was multiplied by alpha a
 unfoldable pub straightened : ℕ → ℕ → ℕ
-straightened u a = pick (eqb a 0) 0 (min 255 (255 * u / a))
+straightened u a = pick (eqb a 0) 0 (min 255 (nearest (255 * u) a))
 
 -- a colour byte v beside the alpha byte a
 abbrev pub straightColour : Bool → Bool → ℕ → ℕ → ℕ

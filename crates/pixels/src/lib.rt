@@ -1,11 +1,13 @@
 // Pixels: what is done to bytes of a picture once they stand in its order. What a rendered and a written byte is stands in specs/.
+mod shares;
+
+use crate::shares::SHARES;
 use answer::Done;
 use answer::Refusal;
 ghost use mathlib.Core.Path.{_≡_};
-ghost use Prim.Native.Nat.{_+_, _<_};
-ghost use lib.ListN.{length};
-ghost use Rattle.pixels.specs.Render.{flipped, highByte, straightened, straightColour};
-ghost use Rattle.pixels.specs.Finish.{Inverted, Straightened, PixelStraightened, PixelsStraightened, WholePixels};
+ghost use mathlib.Core.Bool.{true};
+ghost use Rattle.pixels.specs.Render.{flipped, highByte};
+ghost use Rattle.pixels.specs.Finish.{Inverted, shareOf, StraightBy, ColourBy, Shares, PixelGiven, WholePixels, PixelStraightened, PixelsStraightened, Straightened};
 
 // A byte, inverted where white is 0.
 pub fn flip(white: bool, v: u8) -> u8
@@ -21,23 +23,32 @@ pub fn high(le: bool) -> usize
     if le { 1 } else { 0 }
 }
 
-// A colour that was multiplied by alpha, divided by it again: rule 6.5 for alpha kind 1.
-fn straighten(u: u8, a: u8) -> u8
-    ensures { λ r. ⌜ r ≡ straightened u a ⌝ }
+// The share of alpha a.
+fn share(a: u8) -> u32
+    ensures { λ r. ⌜ r ≡ shareOf a ⌝ }
 {
     if a == 0 {
-        return 0;
+        0
+    } else {
+        (33423359 + (a as u32)) / (a as u32)
     }
-    let full = 255 * (u as u16) / (a as u16);
-    if full < 255 { full as u8 } else { 255 }
 }
 
-// A colour byte beside its alpha byte.
-fn colour(v: u8, a: u8, multiplied: bool, white: bool) -> u8
-    ensures { λ r. ⌜ r ≡ straightColour multiplied white v a ⌝ }
+// A colour times its alpha's share is 255 × u / a in parts of 2^17. Held at 255, which is 33423360 of them, and to nearest: rule 6.5 for alpha kind 1.
+fn straighten(u: u8, share: u32) -> u8
+    ensures { λ r. ⌜ StraightBy share u r ⌝ }
+{
+    let full = (u as u64) * (share as u64);
+    let held = if full < 33423360 { full } else { 33423360 };
+    ((held + 65536) / 131072) as u8
+}
+
+// A colour byte beside an alpha of this share.
+fn colour(v: u8, share: u32, multiplied: bool, white: bool) -> u8
+    ensures { λ r. ⌜ ColourBy share multiplied white v r ⌝ }
 {
     let u = flip(white, v);
-    if multiplied { straighten(u, a) } else { u }
+    if multiplied { straighten(u, share) } else { u }
 }
 
 // Every byte inverted, in place.
@@ -51,27 +62,26 @@ pub fn invert(s: &mut [u8])
     }
 }
 
-fn straighten_pixel(s: &mut [u8], at: usize, last: usize, multiplied: bool, white: bool)
-    requires { ⌜ at + last < length (now s) ⌝ }
+fn straighten_pixel(s: &mut [u8], at: usize, last: usize, multiplied: bool, white: bool, share: u32)
+    requires { ⌜ PixelGiven (now s) at last multiplied share ⌝ }
     ensures { λ r. ⌜ PixelStraightened (now (s .entry)) at last multiplied white (now (s .exit)) ⌝ }
 {
-    let a = s[at + last];
     let mut c: usize = 0;
     while c < last {
-        s[at + c] = colour(s[at + c], a, multiplied, white);
+        s[at + c] = colour(s[at + c], share, multiplied, white);
         c += 1;
     }
 }
 
 // The same, with the numbers of colours that pictures have said outright, so that the compiler writes their loops out.
-fn straighten_known(s: &mut [u8], at: usize, last: usize, multiplied: bool, white: bool)
-    requires { ⌜ at + last < length (now s) ⌝ }
+fn straighten_known(s: &mut [u8], at: usize, last: usize, multiplied: bool, white: bool, share: u32)
+    requires { ⌜ PixelGiven (now s) at last multiplied share ⌝ }
     ensures { λ r. ⌜ PixelStraightened (now (s .entry)) at last multiplied white (now (s .exit)) ⌝ }
 {
     match last {
-        1 => straighten_pixel(s, at, 1, multiplied, white),
-        3 => straighten_pixel(s, at, 3, multiplied, white),
-        _ => straighten_pixel(s, at, last, multiplied, white),
+        1 => straighten_pixel(s, at, 1, multiplied, white, share),
+        3 => straighten_pixel(s, at, 3, multiplied, white, share),
+        _ => straighten_pixel(s, at, last, multiplied, white, share),
     }
 }
 
@@ -82,8 +92,36 @@ fn straighten_pixels(s: &mut [u8], channels: usize, multiplied: bool, white: boo
     let last = channels - 1;
     let mut at: usize = 0;
     while at < s.len() {
-        straighten_known(s, at, last, multiplied, white);
+        let part = share(s[at + last]);
+        straighten_known(s, at, last, multiplied, white, part);
         at += channels;
+    }
+}
+
+// Pixels that were multiplied, by a table of the shares.
+fn divide_pixels(s: &mut [u8], channels: usize, white: bool, shares: &[u32; 256])
+    requires { ⌜ WholePixels (now s) channels × Shares (now shares) ⌝ }
+    ensures { λ r. ⌜ PixelsStraightened (now (s .entry)) channels true white (now (s .exit)) ⌝ }
+{
+    let last = channels - 1;
+    let mut at: usize = 0;
+    while at < s.len() {
+        let a = s[at + last] as usize;
+        straighten_known(s, at, last, true, white, shares[a]);
+        at += channels;
+    }
+}
+
+// Pixels that were multiplied. The table is stored anew wherever it is named, here once a row, so that few pixels are faster without it.
+fn divide_row(s: &mut [u8], channels: usize, white: bool)
+    requires { ⌜ WholePixels (now s) channels ⌝ }
+    ensures { λ r. ⌜ PixelsStraightened (now (s .entry)) channels true white (now (s .exit)) ⌝ }
+{
+    if s.len() < 64 {
+        straighten_pixels(s, channels, true, white);
+    } else {
+        let shares = SHARES;
+        divide_pixels(s, channels, white, &shares);
     }
 }
 
@@ -98,7 +136,11 @@ pub fn straighten_row(s: &mut [u8], channels: usize, multiplied: bool, white: bo
         return Done::Refused(Refusal::Invalid);
     }
     if multiplied {
-        straighten_pixels(s, channels, true, white);
+        if white {
+            divide_row(s, channels, true);
+        } else {
+            divide_row(s, channels, false);
+        }
     } else {
         straighten_pixels(s, channels, false, white);
     }

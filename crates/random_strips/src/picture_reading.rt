@@ -42,13 +42,19 @@ fn flipped(p: &[usize], v: usize) -> usize {
     either(on(p, WHITE), minus(255, v), v)
 }
 
+// n / d; the next number where half of d or more is left over.
+fn nearest(n: usize, d: usize) -> usize {
+    let up = d <= times(2, remainder(n, d));
+    plus(quotient(n, d), either(up, 1, 0))
+}
+
 // A colour beside alpha byte a.
 fn straight(p: &[usize], v: usize, a: usize) -> usize {
     let u = flipped(p, v);
     if at(p, ALPHA) == 2 {
         u
     } else {
-        either(a == 0, 0, smaller(255, quotient(times(255, u), a)))
+        either(a == 0, 0, smaller(255, nearest(times(255, u), a)))
     }
 }
 

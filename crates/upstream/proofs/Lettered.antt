@@ -81,7 +81,7 @@ cases =
     -- J
     ∷ case (18 ∷ 52 ∷ []) (rendered pixel (52 ∷ 18 ∷ []))
     -- K: the three pixels' colours, each beside its alpha
-    ∷ case (127 ∷ 255 ∷ 0 ∷ []) (table 3 (λ x. converted multiplied [] (100 ∷ 200 ∷ 200 ∷ 100 ∷ 9 ∷ 0 ∷ []) (2 * x)))
+    ∷ case (128 ∷ 255 ∷ 0 ∷ []) (table 3 (λ x. converted multiplied [] (100 ∷ 200 ∷ 200 ∷ 100 ∷ 9 ∷ 0 ∷ []) (2 * x)))
     -- L: predicted, unpredicted, and predicted with 2 channels
     ∷ case (0 ∷ 1 ∷ 1 ∷ 1 ∷ 0 ∷ 0 ∷ 0 ∷ 0 ∷ []) (marks 1 true)
     ∷ case (3 ∷ []) (count 1 true)

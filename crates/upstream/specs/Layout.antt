@@ -28,10 +28,10 @@ paletteIndex l k byte =
     let shift = pick (eqb (l .fields .slots) 8) (7 - slot) (pick (eqb (l .fields .slots) 2) ((1 - slot) * 4) 0) in
     byte / power2 shift % l .colors
 
--- rule 6.5: u is v, or 255 - v with white; multiplied, 0 beside alpha 0, else 255 × u / a, held at 255
+-- rule 6.5: u is v, or 255 - v with white; multiplied, 0 beside alpha 0, else 255 × u / a to nearest, halves upward, held at 255
 unfoldable pub straightColor : ℕ → ℕ → Bool → Bool → ℕ
 straightColor v a multiplied white =
-    let u = pick white (255 - v) v in pick multiplied (pick (eqb a 0) 0 (min 255 (255 * u / a))) u
+    let u = pick white (255 - v) v in pick multiplied (pick (eqb a 0) 0 (min 255 ((2 * (255 * u) + a) / (2 * a)))) u
 
 -- the source's != of two truth values
 abbrev pub unequal : Bool → Bool → Bool

@@ -255,6 +255,35 @@ fn clear_padding(l: &Layout, planes: &mut [u8]) {
     }
 }
 
+/// The byte nearest to 255 × u / a, of two that are as near the larger; 0 beside alpha 0.
+fn nearest(u: u8, a: u8) -> u8 {
+    let far = |r: &u8| (u32::from(*r) * u32::from(a)).abs_diff(255 * u32::from(u));
+    if a == 0 {
+        0
+    } else {
+        (0..=255).rev().min_by_key(far).unwrap()
+    }
+}
+
+/// Every colour beside every alpha that it may have been multiplied by, in rows of many pixels and of few.
+#[test]
+fn every_colour_beside_every_alpha() {
+    let pairs: Vec<u8> = (0..=u16::MAX).flat_map(u16::to_le_bytes).collect();
+    let straight: Vec<u8> = pairs.chunks(2).flat_map(|pair| [nearest(pair[0], pair[1]), pair[1]]).collect();
+    let grey = Layout { ch: 2, alpha: 1, ..Layout::grey(256, 256, Big) };
+    assert!(plain::render(&grey, &[], &pairs, pairs.len()).unwrap() == straight, "the reading");
+
+    for l in good().into_iter().filter(|l| l.alpha == 1) {
+        for (w, h) in [(256, 256), (4, 16_384)] {
+            let l = Layout { w, h, ..l };
+            let byte = |pixel: usize, c| if c == l.ch - 1 { pixel >> 8 } else { pixel + c } as u8;
+            let at = |i| if l.separate { byte(i % 65_536, i / 65_536) } else { byte(i / l.ch, i % l.ch) };
+            let raw: Vec<u8> = (0..l.ch * 65_536).map(at).collect();
+            assert!(rendered(&l, &[], &raw).unwrap() == plain::render(&l, &[], &raw, raw.len()).unwrap(), "{l:?}");
+        }
+    }
+}
+
 #[test]
 fn the_cases_of_the_rules() {
     assert_eq!(rendered(&Layout::bilevel(9, 1, Big), &[], &[0x80, 0x80]).unwrap(), [255, 0, 0, 0, 0, 0, 0, 0, 255]);
@@ -263,7 +292,7 @@ fn the_cases_of_the_rules() {
     let wide = Layout { bytes: 2, ..Layout::grey(1, 1, Little) };
     assert_eq!(rendered(&wide, &[], &[0x34, 0x12]).unwrap(), [0x12, 0x34]);
     let multiplied = Layout { ch: 2, alpha: 1, ..Layout::grey(3, 1, Big) };
-    assert_eq!(rendered(&multiplied, &[], &[100, 200, 200, 100, 9, 0]).unwrap(), [127, 200, 255, 100, 0, 0]);
+    assert_eq!(rendered(&multiplied, &[], &[100, 200, 200, 100, 9, 0]).unwrap(), [128, 200, 255, 100, 0, 0]);
     let mut file = vec![0; 96];
     for i in 0..48 {
         file[2 * i + 1] = i as u8;

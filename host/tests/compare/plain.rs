@@ -250,7 +250,11 @@ fn straight(u: u8, a: u8, multiplied: bool) -> u8 {
     match (multiplied, a) {
         (false, _) => u,
         (true, 0) => 0,
-        (true, a) => (255 * u32::from(u) / u32::from(a)).min(255) as u8,
+        (true, a) => {
+            let (full, a) = (255 * u32::from(u), u32::from(a));
+            let up = u32::from(2 * (full % a) >= a);
+            (full / a + up).min(255) as u8
+        }
     }
 }
 

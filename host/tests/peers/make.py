@@ -42,9 +42,10 @@ def multiplied():
 
 
 def divided(pixels):
-    """Colours that were multiplied by alpha, divided by it: rounded down, at most 255, 0 beside an alpha of 0."""
+    """Colours that were multiplied by alpha, divided by it: to nearest, halves upward, at most 255, 0 beside an alpha of 0."""
     alpha = pixels[..., -1:].astype(int)
-    colours = numpy.minimum(255, 255 * pixels[..., :-1].astype(int) // numpy.maximum(alpha, 1))
+    full = 255 * pixels[..., :-1].astype(int)
+    colours = numpy.minimum(255, (2 * full + alpha) // numpy.maximum(2 * alpha, 1))
     return numpy.concatenate([numpy.where(alpha == 0, 0, colours), alpha], axis=-1).astype(numpy.uint8)
 
 

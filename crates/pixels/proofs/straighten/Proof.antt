@@ -1,28 +1,29 @@
--- `pixels::straighten` meets its promise: the quotient, held at 255. Assumes nothing.
-use borrow.Author.Needs.{needs}
-use mathlib.Core.Path.{sym}
+-- `pixels::straighten` meets its contract: a colour times a share, held at 255 before it is rounded. Assumes nothing.
+use native.Mathlib.Nat.{mul-le-mul}
 use native.Mathlib.Omega.{arith}
-use Rattle.pixels.proofs.Straight.{straight-none, straight-less, straight-full}
+use Prim.Native.Nat.{_*_, _≤_}
+use mathlib.Core.Logic.{⊎-elim, inl, inr}
+use Rattle.pixels.proofs.Straight.{Held, straight-held}
 use Rattle.pixels.proofs.straighten.Statement.{statement}
 use Rattle.pixels.proofs.straighten.Tie as tie
-
-returns : tie.Need-returns
-returns c = sym (straight-none _ _ (c .if1 .taken))
+use Rattle.pixels.proofs.straighten.Reads as reads
+use Rattle.pixels.proofs.straighten.Lts as lts
 
 mul-full : tie.Need-mul-full
-mul-full c = search needs
+mul-full c =
+    let most : c .args .u * c .args .share ≤ 255 * 4294967295 = mul-le-mul {n₁ = c .args .u} {m₁ = c .args .share} {n₂ = 255} {m₂ = 4294967295} (omega arith) (omega arith) in
+    record { fits = omega arith }
 
-div-full : tie.Need-div-full
-div-full c = search needs
+add-result : tie.Need-add-result
+add-result c = ⊎-elim (λ w. omega arith) (λ w. omega arith) (c .before .if1 .came)
 
 cast-result : tie.Need-cast-result
-cast-result c = search needs
+cast-result c = ⊎-elim (λ w. omega arith) (λ w. omega arith) (c .before .if1 .came)
 
-returns-2 : tie.Need-returns-2
-returns-2 c = let start = c .before .before in sym (straight-less (start .args .u) (start .args .a) (c .before .if1 .left) (omega (arith, c .if2 .taken)))
-
-returns-3 : tie.Need-returns-3
-returns-3 c = let start = c .before .before in sym (straight-full (start .args .u) (start .args .a) (c .before .if1 .left) (omega (arith, c .if2 .left)))
+returns : tie.Need-returns
+returns c a alpha e =
+    let args = c .before .before .args in
+    straight-held (args .u) a (args .share) (c .before .if1 .held) (omega arith) alpha e (⊎-elim (λ w. inl (w .0 .taken, w .1)) (λ w. inr (omega arith, w .1)) (c .before .if1 .came))
 
 pub straighten-spec : {M : Type 1} → statement M
-straighten-spec = tie.close (tie.spec returns mul-full div-full cast-result returns-2 returns-3)
+straighten-spec = tie.close (tie.spec mul-full add-result cast-result returns)
