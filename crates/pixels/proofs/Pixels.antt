@@ -1,7 +1,7 @@
 -- The loop over pixels whose last byte is their alpha: its invariant, how a pixel keeps it, and what it comes to. Assumes nothing.
 use Prim.Native.Nat.{ℕ, _+_, _-_, _%_, _≤_, _<_}
 use mathlib.Core.Path.{_≡_, refl, ap, _∙_}
-use mathlib.Core.Bool.{Bool}
+use mathlib.Core.Bool.{Bool, true}
 use mathlib.Core.List.{List}
 use native.Mathlib.Nat.{zero-mod, add-mod-right}
 use native.Mathlib.Omega.{arith}
@@ -11,7 +11,7 @@ use Rattle.answer.specs.Table.{filled}
 use Rattle.answer.proofs.Filling.{length-filled, filled-keep, filled-rest, stores-filled}
 use Rattle.laws.proofs.Groups.{group-room, into-group}
 use Rattle.pixels.specs.Render.{straightColour}
-use Rattle.pixels.specs.Finish.{straightAt, WholePixels, PixelStraightened, PixelsStraightened}
+use Rattle.pixels.specs.Finish.{shareOf, straightAt, PixelGiven, WholePixels, PixelStraightened, PixelsStraightened}
 
 pub record Straight (old : List ℕ) (channels : ℕ) (multiplied white : Bool) (at : ℕ) (s : List ℕ) : Type 0 where
   pub inside : at ≤ length old
@@ -23,14 +23,18 @@ pub straight-start : (old : List ℕ) (channels : ℕ) (multiplied white : Bool)
 straight-start old channels multiplied white = record { inside = omega arith; pixels = zero-mod channels; same = refl; so-far = refl }
 
 module _ {old : List ℕ} {channels : ℕ} {multiplied white : Bool} {at : ℕ} {s : List ℕ} (whole : WholePixels old channels) (is : Straight old channels multiplied white at s) where
-  pub pixel-room : at < length old → at + channels ≤ length old
-  pixel-room more = group-room channels (length old) at (whole .whole) (is .pixels) more
+  pub pixel-room : at < length s → at + channels ≤ length s
+  pixel-room more = let room = group-room channels (length old) at (whole .whole) (is .pixels) (omega (arith, is .same)) in omega (arith, is .same)
 
-  pub pixel-turned : at < length old → (new : List ℕ) → PixelStraightened s at (channels - 1) multiplied white new → Straight old channels multiplied white (at + channels) new
+  -- what a pixel's share has to be for the pixel to be made straight
+  pub pixel-given : at < length s → (share : ℕ) → (multiplied ≡ true → share ≡ shareOf (getD s (at + (channels - 1)) 0)) → PixelGiven s at (channels - 1) multiplied share
+  pixel-given more share known = record { room = omega (arith, pixel-room more, whole .some); known = known }
+
+  pub pixel-turned : at < length s → (new : List ℕ) → PixelStraightened s at (channels - 1) multiplied white new → Straight old channels multiplied white (at + channels) new
   pixel-turned more new e =
       let last = channels - 1 in
       let some = whole .some in
-      let room = pixel-room more in
+      let room : at + channels ≤ length old = omega (arith, pixel-room more, is .same) in
       let f = straightAt old channels multiplied white in
       let unread : (c : ℕ) → getD s (at + c) 0 ≡ getD old (at + c) 0 = λ c. ap (λ (l : List ℕ). getD l (at + c) 0) (is .so-far) ∙ filled-rest at f old (at + c) (omega arith) in
       let colours : (p : ℕ) → p < last → straightColour multiplied white (getD s (at + p) 0) (getD s (at + last) 0) ≡ f (at + p) =
@@ -48,5 +52,5 @@ module _ {old : List ℕ} {channels : ℕ} {multiplied white : Bool} {at : ℕ} 
         so-far = now;
       }
 
-  pub straight-end : length old ≤ at → PixelsStraightened old channels multiplied white s
-  straight-end l = let all : at ≡ length old = omega (arith, is .inside) in rw all at (is .so-far)
+  pub straight-end : length s ≤ at → PixelsStraightened old channels multiplied white s
+  straight-end l = let all : at ≡ length old = omega (arith, is .inside, is .same) in rw all at (is .so-far)

@@ -23,7 +23,7 @@ pub fn high(le: bool) -> usize
     if le { 1 } else { 0 }
 }
 
-// The share of alpha a.
+// The share of an alpha, worked out: 33423360 / a, rounded up.
 fn share(a: u8) -> u32
     ensures { λ r. ⌜ r ≡ shareOf a ⌝ }
 {
@@ -34,7 +34,8 @@ fn share(a: u8) -> u32
     }
 }
 
-// A colour times its alpha's share is 255 × u / a in parts of 2^17. Held at 255, which is 33423360 of them, and to nearest: rule 6.5 for alpha kind 1.
+// A colour that was multiplied by alpha, divided by it again: rule 6.5 for alpha kind 1. Times its alpha's share it is 255 × u / a in parts of 2^17,
+// of which 33423360 are 255 and 65536 a half.
 fn straighten(u: u8, share: u32) -> u8
     ensures { λ r. ⌜ StraightBy share u r ⌝ }
 {
@@ -85,6 +86,7 @@ fn straighten_known(s: &mut [u8], at: usize, last: usize, multiplied: bool, whit
     }
 }
 
+// Every pixel by its alpha's share, which is worked out, and where nothing was multiplied left out by the compiler.
 fn straighten_pixels(s: &mut [u8], channels: usize, multiplied: bool, white: bool)
     requires { ⌜ WholePixels (now s) channels ⌝ }
     ensures { λ r. ⌜ PixelsStraightened (now (s .entry)) channels multiplied white (now (s .exit)) ⌝ }
@@ -98,7 +100,7 @@ fn straighten_pixels(s: &mut [u8], channels: usize, multiplied: bool, white: boo
     }
 }
 
-// Pixels that were multiplied, by a table of the shares.
+// Every pixel that was multiplied, by a table of the shares.
 fn divide_pixels(s: &mut [u8], channels: usize, white: bool, shares: &[u32; 256])
     requires { ⌜ WholePixels (now s) channels × Shares (now shares) ⌝ }
     ensures { λ r. ⌜ PixelsStraightened (now (s .entry)) channels true white (now (s .exit)) ⌝ }
@@ -112,7 +114,7 @@ fn divide_pixels(s: &mut [u8], channels: usize, white: bool, shares: &[u32; 256]
     }
 }
 
-// Pixels that were multiplied. The table is stored anew wherever it is named, here once a row, so that few pixels are faster without it.
+// A row that was multiplied. The table is stored anew wherever it is named, here once a row, so that few pixels are faster without it.
 fn divide_row(s: &mut [u8], channels: usize, white: bool)
     requires { ⌜ WholePixels (now s) channels ⌝ }
     ensures { λ r. ⌜ PixelsStraightened (now (s .entry)) channels true white (now (s .exit)) ⌝ }
@@ -136,6 +138,7 @@ pub fn straighten_row(s: &mut [u8], channels: usize, multiplied: bool, white: bo
         return Done::Refused(Refusal::Invalid);
     }
     if multiplied {
+        // two calls, of which the compiler takes neither in: the callers' loops need the registers
         if white {
             divide_row(s, channels, true);
         } else {

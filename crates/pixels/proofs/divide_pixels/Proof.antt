@@ -1,10 +1,10 @@
--- `pixels::divide_pixels` meets its contract: the invariant and its laws are in proofs/Pixels.antt; a share is looked up. Assumes nothing.
+-- `pixels::divide_pixels` meets its contract: the invariant and its laws are in proofs/Pixels.antt, and shares are looked up. Assumes nothing.
 use borrow.Author.Needs.{needs}
 use native.Mathlib.Omega.{arith}
 use Prim.Native.Nat.{_+_, _-_, _≤_, _<_}
 use mathlib.Core.Bool.{true}
 use lib.ListN.{length, getD}
-use Rattle.pixels.proofs.Pixels.{Straight, straight-start, pixel-room, pixel-turned, straight-end}
+use Rattle.pixels.proofs.Pixels.{Straight, straight-start, pixel-room, pixel-given, pixel-turned, straight-end}
 use Rattle.pixels.proofs.divide_pixels.Statement.{statement}
 use Rattle.pixels.proofs.divide_pixels.Tie as tie
 
@@ -16,10 +16,7 @@ abbrev μ-loop : tie.MeasureT-loop
 
 -- a pixel is left
 room : (c : tie.In-loop Inv-loop μ-loop) → c .before .loop .at + c .before .before .before .args .channels ≤ length (c .before .loop .s)
-room c =
-    let at = c .before in
-    let is = at .loop .inv in
-    omega (arith, pixel-room (at .before .before .pre .0) is (omega (arith, c .loop-test .taken, is .same)), is .same)
+room c = let at = c .before in pixel-room (at .before .before .pre .0) (at .loop .inv) (c .loop-test .taken)
 
 -- its alpha byte is a byte
 alpha : (c : tie.After-slice-known2 Inv-loop μ-loop) → let at = c .before .before in getD (at .loop .s) (at .loop .at + (at .before .before .args .channels - 1)) 0 < 256
@@ -28,22 +25,19 @@ alpha c = let at = c .before .before in omega (arith, c .slice-known2 .given (at
 straighten-known-requires : tie.Need-straighten-known-requires Inv-loop μ-loop
 straighten-known-requires c κs =
     let read = c .before .before in
-    let start = read .before .before .before .before in
-    record { room = omega (arith, room (read .before), start .pre .0 .some); known = λ is. start .pre .1 .right _ (alpha read) }
+    let turn = read .before in
+    let at = turn .before in
+    let start = at .before .before in pixel-given (start .pre .0) (at .loop .inv) (turn .loop-test .taken) _ (λ is. start .pre .1 .right _ (alpha read))
 
 -- the turn's start, from its end
-abbrev turn : tie.After-slice-known3 Inv-loop μ-loop → tie.In-loop Inv-loop μ-loop
-turn c = let known = c .before .before in known .before .before .before .before
+abbrev begun : tie.After-slice-known3 Inv-loop μ-loop → tie.In-loop Inv-loop μ-loop
+begun c = let known = c .before .before in known .before .before .before .before
 
 loop-again : tie.Need-loop-again Inv-loop μ-loop
 loop-again c =
-    let at = turn c .before in
-    pixel-turned (at .before .before .pre .0) (at .loop .inv) (omega (arith, turn c .loop-test .taken, at .loop .inv .same)) _ (c .before .before .straighten-known .ensures)
-
-returns : tie.Need-returns Inv-loop μ-loop
-returns c =
-    let at = c .before in
-    straight-end (at .before .before .pre .0) (at .loop .inv) (omega (arith, c .loop-test .left, at .loop .inv .same))
+    let turn = begun c in
+    let at = turn .before in
+    pixel-turned (at .before .before .pre .0) (at .loop .inv) (turn .loop-test .taken) _ (c .before .before .straighten-known .ensures)
 
 pub divide-pixels-spec : {M : Type 1} → statement M
 divide-pixels-spec =
@@ -59,8 +53,8 @@ divide-pixels-spec =
     (λ c. omega (arith, alpha (c .before)))
     (λ c. alpha (c .before))
     straighten-known-requires
-    (λ c. omega (arith, room (turn c)))
-    (λ c. omega (arith, room (turn c), turn c .before .loop .inv .same, turn c .before .before .before .pre .0 .some))
+    (λ c. omega (arith, room (begun c)))
+    (λ c. let at = begun c .before in omega (arith, room (begun c), at .loop .inv .same, at .before .before .pre .0 .some))
     loop-again
     (λ c. search needs)
-    returns)
+    (λ c. let at = c .before in straight-end (at .before .before .pre .0) (at .loop .inv) (c .loop-test .left)))

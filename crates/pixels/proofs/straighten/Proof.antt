@@ -3,11 +3,9 @@ use native.Mathlib.Nat.{mul-le-mul}
 use native.Mathlib.Omega.{arith}
 use Prim.Native.Nat.{_*_, _≤_}
 use mathlib.Core.Logic.{⊎-elim, inl, inr}
-use Rattle.pixels.proofs.Straight.{Held, straight-held}
+use Rattle.pixels.proofs.Straight.{straight-held}
 use Rattle.pixels.proofs.straighten.Statement.{statement}
 use Rattle.pixels.proofs.straighten.Tie as tie
-use Rattle.pixels.proofs.straighten.Reads as reads
-use Rattle.pixels.proofs.straighten.Lts as lts
 
 mul-full : tie.Need-mul-full
 mul-full c =
