@@ -121,7 +121,8 @@ pub struct Layout {
     pub order: ByteOrder,
     /// Whether 0 is white; a palette ignores it.
     pub white: bool,
-    /// 0: no alpha; 1: the last channel is alpha and the others are multiplied by it; 2: it is, and they are not.
+    /// 0: no alpha; 1: the last channel is alpha and the others are multiplied by it, which rendering undoes; 2: it is,
+    /// and they are not.
     pub alpha: usize,
     /// The byte of the file at which the palette begins: all reds, then greens, then blues, two bytes each.
     pub map: usize,

@@ -75,9 +75,9 @@ const PNM: &[Opt] = &[opt("pnm", "", "write a PGM (grey) or a PPM (three colours
 
 /// What a picture is written as.
 const FORMS: &str = "\
-Channels of two bytes come out most significant byte first. An OUT called .pgm, .ppm, .pnm (either) or
-.pam gets a header that viewers know; any other gets the bytes alone. A .pam keeps alpha, the others
-leave it out.
+Channels of two bytes come out most significant byte first. Colours that are multiplied by alpha are
+divided by it again, to the nearest byte. An OUT called .pgm, .ppm, .pnm (either) or .pam gets a header
+that viewers know; any other gets the bytes alone. A .pam keeps alpha, the others leave it out.
 ";
 
 const PAGE: &[Opt] = &[number("page", "which page, {}; 0, the first, if not given", limits::PAGES)];
