@@ -1,7 +1,7 @@
 -- The alpha rule by shares: a colour times its alpha's share, held at 255 and to nearest, is the rule's colour; and a table of shares is right if
 -- one computed test of it is. Assumes nothing.
 use Prim.Native.Nat.{ℕ, _+_, _-_, _*_, _/_, _≤_, _<_, min}
-use mathlib.Core.Path.{_≡_, refl, sym, ap, _∙_}
+use mathlib.Core.Path.{_≡_, sym, ap, _∙_}
 use mathlib.Core.Bool.{true}
 use mathlib.Core.List.{List}
 use mathlib.Core.Logic.{_⊎_, ⊎-elim}
