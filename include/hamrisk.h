@@ -232,6 +232,23 @@ uint32_t hamrisk_strip(const uint8_t *file, size_t file_len, size_t page, size_t
  */
 uint32_t hamrisk_strips(const uint8_t *file, size_t file_len, size_t page, size_t *parts, size_t parts_len);
 
+/*
+ * The bytes of the file that hamrisk_write_file writes.
+ * Refuses: as hamrisk_check_layout; le 0, palette, bytes 8, ch 2 or 4 without alpha 2, or ch 3 or 4 with white: 1;
+ *          rows_per_strip 0 or above h: 2.
+ * Writes: *length, below 2^32.
+ */
+uint32_t hamrisk_file_length(const hamrisk_layout *layout, size_t rows_per_strip, size_t *length);
+
+/*
+ * A TIFF file of one page, little-endian, not compressed and not predicted, whose strips are the planes as they are, with
+ * rows_per_strip rows in each, fewer in the last of a plane. hamrisk_directory reads this layout back from it, with map 0.
+ * Refuses: as hamrisk_file_length; planes_len below the scratch length: 3; out_len below the file's length: 4.
+ * Writes: the file, at the front of out; *length, its bytes.
+ */
+uint32_t hamrisk_write_file(const hamrisk_layout *layout, size_t rows_per_strip, const uint8_t *planes, size_t planes_len,
+                            uint8_t *out, size_t out_len, size_t *length);
+
 #ifdef __cplusplus
 }
 #endif
