@@ -113,6 +113,16 @@ extern "C" {
         length: *mut usize,
     ) -> u32;
     fn hamrisk_strips(file: *const u8, file_len: usize, page: usize, parts: *mut usize, parts_len: usize) -> u32;
+    fn hamrisk_file_length(layout: *const usize, rows_per_strip: usize, length: *mut usize) -> u32;
+    fn hamrisk_write_file(
+        layout: *const usize,
+        rows_per_strip: usize,
+        planes: *const u8,
+        planes_len: usize,
+        out: *mut u8,
+        out_len: usize,
+        length: *mut usize,
+    ) -> u32;
 }
 
 declare_over_strip! {
@@ -489,4 +499,54 @@ pub fn strip(file: &[u8], page: usize, k: usize) -> Result<&[u8], Refusal> {
 pub fn strip_places(file: &[u8], page: usize, parts: &mut [usize]) -> Result<(), Refusal> {
     // SAFETY: the pointers are two slices', which do not overlap, as the header asks.
     done(unsafe { hamrisk_strips(file.as_ptr(), file.len(), page, parts.as_mut_ptr(), parts.len()) })
+}
+
+/// The bytes of the file that [`write_file`] writes.
+///
+/// Refuses: as [`check_layout`]; then planes of the most significant byte first, palette, bytes 8, ch 2 or 4 without
+/// alpha 2, or ch 3 or 4 with white is Unsupported; rows per strip 0 or above h is Invalid.
+///
+/// ```
+/// use hamrisk::{file_length, ByteOrder::Little, Layout, Refusal};
+///
+/// assert_eq!(file_length(&Layout::grey(2, 1, Little), 1), Ok(200));
+/// assert_eq!(file_length(&Layout::grey(2, 1, Little), 2), Err(Refusal::Invalid));
+/// ```
+pub fn file_length(layout: &Layout, rows_per_strip: usize) -> Result<usize, Refusal> {
+    let mut length = 0;
+    // SAFETY: the pointers are those of a layout and of a local number, as the header asks.
+    done(unsafe { hamrisk_file_length(numbers(layout).as_ptr(), rows_per_strip, &mut length) })?;
+    Ok(length)
+}
+
+/// A TIFF file of one page, little-endian, not compressed and not predicted, whose strips are the planes as they are, with
+/// `rows_per_strip` rows in each, fewer in the last of a plane; answers its length. [`read_directory`] reads this layout
+/// back from it, with map 0.
+///
+/// Refuses: as [`file_length`]; then `planes` shorter than the scratch length is Truncated; `out` shorter than the file is
+/// OutputTooSmall. Writes the file at the front of `out`.
+///
+/// ```
+/// use hamrisk::{strip, write_file, ByteOrder::Little, Layout, Refusal};
+///
+/// let mut out = [0; 210];
+/// let length = write_file(&Layout::grey(2, 1, Little), 1, &[50, 60], &mut out)?;
+/// assert_eq!(strip(&out[..length], 0, 0)?, [50, 60]);
+/// # Ok::<(), Refusal>(())
+/// ```
+pub fn write_file(layout: &Layout, rows_per_strip: usize, planes: &[u8], out: &mut [u8]) -> Result<usize, Refusal> {
+    let mut length = 0;
+    // SAFETY: the pointers are a layout's, two slices' and a local number's, which do not overlap, as the header asks.
+    done(unsafe {
+        hamrisk_write_file(
+            numbers(layout).as_ptr(),
+            rows_per_strip,
+            planes.as_ptr(),
+            planes.len(),
+            out.as_mut_ptr(),
+            out.len(),
+            &mut length,
+        )
+    })?;
+    Ok(length)
 }

@@ -1,12 +1,13 @@
 //! The sample layer of TIFF, proved: the pages and strips of a file, words, byte swaps, bit reversal, predicted samples
-//! read and written, damage marks, layouts, and pictures rendered from planes and written to them.
+//! read and written, damage marks, layouts, pictures rendered from planes and written to them, and files of planes.
 //!
 //! Each call here hands the caller's slices to a function of the library in `crates/capi`, which is proved to meet its
 //! promise on every input: it ends, stays within its slices, and refuses in a fixed order. A refusal writes nothing. A
 //! call that is done writes the stated bytes at the front of its output and leaves the bytes past them as they were.
 //! The numbers that are served stand in [`limits`]. Nothing is allocated, but for the calls that answer a `Vec`:
-//! [`converted`], [`forwarded`], [`marked`], [`rendered`], [`written`] and [`placed`]; [`explain`], which says what the
-//! refusal of a file is about; [`skipped`], which says what to be wary of; and [`picture`] and [`samples`], which need no more than a file:
+//! [`converted`], [`forwarded`], [`marked`], [`rendered`], [`written`], [`written_file`] and [`placed`]; [`explain`], which
+//! says what the refusal of a file is about; [`skipped`], which says what to be wary of; and [`picture`] and [`samples`],
+//! which need no more than a file:
 //!
 //! ```no_run
 //! let shelf = hamrisk::picture(&std::fs::read("shelf.tif")?, 0)?;
@@ -31,6 +32,7 @@
 #![warn(missing_docs)]
 #![deny(unsafe_code)]
 
+mod advice;
 #[allow(unsafe_code)]
 mod ffi;
 pub mod limits;
@@ -39,11 +41,12 @@ mod pages;
 mod reading;
 mod types;
 
+pub use advice::advised_rows_per_strip;
 pub use ffi::{
-    check_layout, check_strip, commit, convert, forward, index, load, marks, read_directory, read_word, render,
-    reverse_bits, strip, strip_place, strip_places, swap_components, write_planes,
+    check_layout, check_strip, commit, convert, file_length, forward, index, load, marks, read_directory, read_word,
+    render, reverse_bits, strip, strip_place, strip_places, swap_components, write_file, write_planes,
 };
-pub use owned::{converted, forwarded, marked, rendered, written};
+pub use owned::{converted, forwarded, marked, rendered, written, written_file};
 pub use pages::{picture, placed, samples, Picture, Samples};
 pub use reading::{
     explain, explain_layout, explain_strip, skipped, Fault, LayoutFault, Reading, Skipped, StripFault, TagFault,

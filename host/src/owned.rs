@@ -57,3 +57,22 @@ pub fn written(layout: &Layout, picture: &[u8]) -> Result<Vec<u8>, Refusal> {
     write_planes(layout, picture, &mut planes)?;
     Ok(planes)
 }
+
+/// [`write_file`] into a new `Vec`. Refuses as [`write_file`], but for a short output.
+///
+/// ```
+/// use hamrisk::{advised_rows_per_strip, picture, written, written_file, ByteOrder::Little, Layout, Refusal};
+///
+/// let depth = Layout { bytes: 2, ..Layout::grey(2, 1, Little) };
+/// let planes = written(&depth, &[0x12, 0x34, 0x56, 0x78])?;
+/// let file = written_file(&depth, advised_rows_per_strip(&depth)?, &planes)?;
+/// let read = picture(&file, 0)?;
+/// assert_eq!(read.page.layout, depth);
+/// assert_eq!(read.bytes, [0x12, 0x34, 0x56, 0x78]);
+/// # Ok::<(), Refusal>(())
+/// ```
+pub fn written_file(layout: &Layout, rows_per_strip: usize, planes: &[u8]) -> Result<Vec<u8>, Refusal> {
+    let mut file = vec![0; file_length(layout, rows_per_strip)?];
+    write_file(layout, rows_per_strip, planes, &mut file)?;
+    Ok(file)
+}
