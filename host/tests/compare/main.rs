@@ -2,11 +2,13 @@
 //! every buffer.
 
 mod directories;
+mod files;
 mod lent;
 mod made;
 mod numbers;
 mod pictures;
 mod plain;
+mod plain_files;
 mod random;
 mod spoiled;
 mod strips;

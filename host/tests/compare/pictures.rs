@@ -7,7 +7,7 @@ use hamrisk::ByteOrder::{Big, Little};
 use hamrisk::{check_layout, index, render, rendered, write_planes, written, ByteAt, Layout};
 
 /// Every layout of these numbers, good or bad, with one row of one pixel.
-fn layouts(all_bytes: &[usize], all_ch: &[usize], all_slots: &[usize], all_alpha: &[usize]) -> Vec<Layout> {
+pub fn layouts(all_bytes: &[usize], all_ch: &[usize], all_slots: &[usize], all_alpha: &[usize]) -> Vec<Layout> {
     let mut list = vec![Layout::grey(1, 1, Big)];
     list = with(list, all_bytes, |l, bytes| Layout { bytes, ..l });
     list = with(list, all_ch, |l, ch| Layout { ch, ..l });
@@ -24,20 +24,20 @@ fn with<T: Copy>(list: Vec<Layout>, values: &[T], set: impl Fn(Layout, T) -> Lay
 }
 
 /// Every kind of layout that the check accepts.
-fn good() -> Vec<Layout> {
+pub fn good() -> Vec<Layout> {
     let mut list = layouts(&[1, 2, 8], &[1, 2, 3, 4], &[1, 2, 8], &[0, 1, 2]);
     list.retain(|l| plain::check_layout(l).is_ok());
     list
 }
 
 /// A picture's size: mostly small, at times past the rows that are rendered many bytes at once.
-fn sized(random: &mut Random, l: Layout) -> Layout {
+pub fn sized(random: &mut Random, l: Layout) -> Layout {
     let w = if random.below(6) == 0 { 1 + random.below(150) } else { 1 + random.below(20) };
     Layout { w, h: 1 + random.below(4), ..l }
 }
 
 /// The lengths that a layout asks for, planes and picture; of a layout that is refused, any.
-fn lengths(l: &Layout) -> (usize, usize) {
+pub fn lengths(l: &Layout) -> (usize, usize) {
     plain::check_layout(l).map_or((40, 40), |d| (d.scratch_length, d.output_length))
 }
 
