@@ -75,10 +75,18 @@ const PNM: &[Opt] = &[opt("pnm", "", "write a PGM (grey) or a PPM (three colours
 
 /// What a picture is written as.
 const FORMS: &str = "\
-Channels of two bytes come out most significant byte first. Colours that are multiplied by alpha are
-divided by it again, to the nearest byte. An OUT called .pgm, .ppm, .pnm (either) or .pam gets a header
-that viewers know; any other gets the bytes alone. A .pam keeps alpha, the others leave it out.
+Channels of two bytes come out most significant byte first, in a .tif least. Colours that are multiplied
+by alpha are divided by it again, to the nearest byte. An OUT called .tif or .tiff becomes a TIFF file, in
+which bilevel stays so and a palette becomes colours; one called .pgm, .ppm, .pnm (either) or .pam gets a
+header that viewers know; any other gets the bytes alone. A .tif and a .pam keep alpha, the others leave
+it out.
 ";
+
+const ROWS: &[Opt] = &[opt(
+    "rows-per-strip",
+    "N",
+    "rows of a strip, 1 to h; as many as take 8192 bytes or fewer, but one at least, if not given",
+)];
 
 const PAGE: &[Opt] = &[number("page", "which page, {}; 0, the first, if not given", limits::PAGES)];
 
@@ -159,6 +167,14 @@ pub const COMMANDS: &[Command] = &[
         notes: "Channels of two bytes are read most significant byte first, as render writes them.\n\
                 Palettes and alpha 1 are not written. Padding bits are 0.\n",
         run: layouts::planes,
+    },
+    Command {
+        syntax: Syntax { name: "wrap", files: &["PLANES", "OUT"], groups: &[LAYOUT, ROWS] },
+        about: "write a TIFF file of one page, whose strips are PLANES as they are",
+        notes: "The file is little-endian, and neither compressed nor predicted. Written are grey or red, green and\n\
+                blue, of 8 or 16 bits, with 8 bits alpha 2 beside them, and bilevel; planes together or apart. A\n\
+                palette, alpha 1, planes of be, and colours with white are not written.\n",
+        run: layouts::wrap,
     },
     Command {
         syntax: Syntax { name: "demo", files: &[], groups: &[DEMO] },

@@ -3,7 +3,7 @@
 use crate::args::Args;
 use crate::failure::Failure;
 use crate::{files, pictures};
-use hamrisk::{converted, forwarded, load, marked, ByteOrder, Coding, Refusal, SampleAt, Strip};
+use hamrisk::{converted, forwarded, load, marked, ByteOrder, Coding, Layout, Refusal, SampleAt, Strip};
 use std::fs;
 use std::path::{Path, PathBuf};
 
@@ -38,9 +38,13 @@ const ZOOM: usize = 8;
 
 pub fn run(args: &Args) -> Result<(), Failure> {
     let folder = args.value("to").map_or_else(|| std::env::temp_dir().join("hamrisk-demo"), PathBuf::from);
-    let story = Story::new().map_err(|refusal| Failure::refused("demo", refusal, None))?;
+    let story = Story::new().map_err(refused)?;
     story.write_pictures(&folder)?;
     files::print(&story.text(&folder))
+}
+
+fn refused(refusal: Refusal) -> Failure {
+    Failure::refused("demo", refusal, None)
 }
 
 /// Depths as they were and as a plain reader has them, and which of these are marked.
@@ -85,7 +89,7 @@ impl Story {
              {own} samples were in the packet, but {wrong} came out wrong: each sample of a row rests on those before it.\n\
              {filled} bare places came out full: an order planned from this reading would leave them bare.\n\
              {} samples are marked; {hidden} came out wrong without a mark.\n\n\
-             Pictures: shelf.pgm, plain.pgm and marks.pgm in {}\n",
+             Pictures: shelf, plain and marks, each as .pgm and as .tif, in {}\n",
             self.drawing(),
             self.count,
             folder.display()
@@ -113,9 +117,9 @@ impl Story {
         let shades = |depths: &[u16]| depths.iter().map(|&depth| shade(depth)).collect();
         let mut marks = self.marks.clone();
         pictures::white_where_marked(&mut marks);
-        write_picture(&folder.join("shelf.pgm"), shades(&self.sent))?;
-        write_picture(&folder.join("plain.pgm"), shades(&self.read))?;
-        write_picture(&folder.join("marks.pgm"), marks)
+        write_picture(&folder.join("shelf"), shades(&self.sent))?;
+        write_picture(&folder.join("plain"), shades(&self.read))?;
+        write_picture(&folder.join("marks"), marks)
     }
 }
 
@@ -143,9 +147,12 @@ fn shade(depth: u16) -> u8 {
     255 - (u32::from(depth.min(BACK)) * 255 / u32::from(BACK)) as u8
 }
 
-/// A grey picture with `ZOOM` × `ZOOM` pixels for each place.
-fn write_picture(path: &Path, places: Vec<u8>) -> Result<(), Failure> {
+/// A grey picture with `ZOOM` × `ZOOM` pixels for each place, as a PGM and as a TIFF of this name.
+fn write_picture(name: &Path, places: Vec<u8>) -> Result<(), Failure> {
+    let (w, h) = (W * ZOOM, H * ZOOM);
     let zoomed = |row: &[u8]| row.iter().flat_map(|&v| [v; ZOOM]).collect::<Vec<u8>>().repeat(ZOOM);
     let pixels: Vec<u8> = places.chunks(W).flat_map(zoomed).collect();
-    files::write(path, &[pictures::header(false, W * ZOOM, H * ZOOM, 1).as_bytes(), &pixels])
+    let tiff = pictures::tiff(&Layout::grey(w, h, ByteOrder::Little), &pixels).map_err(refused)?;
+    files::write(&name.with_extension("pgm"), &[pictures::header(false, w, h, 1).as_bytes(), &pixels])?;
+    files::write(&name.with_extension("tif"), &[&tiff])
 }

@@ -3,7 +3,7 @@
 use crate::failure::Fault;
 use hamrisk::limits::{self, Served, MOST_PICTURE_BYTES, MOST_SIDE};
 use hamrisk::Refusal::{self, Invalid, Limit, Truncated, Unsupported};
-use hamrisk::{check_layout, Layout, Strip};
+use hamrisk::{check_layout, ByteOrder, Layout, Strip};
 
 /// A fault, if it is one.
 fn fault(holds: bool, refusal: Refusal, text: impl Into<String>) -> Option<Fault> {
@@ -115,7 +115,20 @@ pub fn of_render(l: &Layout, file_length: usize, raw_length: usize) -> Option<Fa
             Truncated,
             format!("the palette of {colours} colours at map {map} ends at byte {end}, and its file has {file_length} bytes"),
         ),
-        fault(raw_length < needed, Truncated, format!("the planes have {raw_length} bytes and need {needed}")),
+        short_planes(raw_length, needed),
+    ])
+}
+
+fn short_planes(length: usize, needed: usize) -> Option<Fault> {
+    fault(length < needed, Truncated, format!("the planes have {length} bytes and need {needed}"))
+}
+
+/// What no planes and no file are written of.
+fn unwritten(l: &Layout) -> Option<Fault> {
+    first([
+        fault(l.palette, Unsupported, "a palette is not written"),
+        fault(!limits::RENDERED_BYTES.has(l.bytes), Unsupported, format!("bytes {} is not written", l.bytes)),
+        fault(!limits::WRITTEN_ALPHAS.has(l.alpha), Unsupported, format!("alpha {} is not written", l.alpha)),
     ])
 }
 
@@ -124,13 +137,27 @@ pub fn of_planes(l: &Layout, picture: &[u8]) -> Option<Fault> {
         return of_layout(l);
     };
     let (length, needed) = (picture.len(), d.output_length);
-    let numbers = first([
-        fault(l.palette, Unsupported, "a palette is not written"),
-        fault(!limits::RENDERED_BYTES.has(l.bytes), Unsupported, format!("bytes {} is not written", l.bytes)),
-        fault(!limits::WRITTEN_ALPHAS.has(l.alpha), Unsupported, format!("alpha {} is not written", l.alpha)),
-        fault(length < needed, Truncated, format!("the picture has {length} bytes and needs {needed}")),
-    ]);
-    numbers.or_else(|| grey_byte(l, picture))
+    let short = fault(length < needed, Truncated, format!("the picture has {length} bytes and needs {needed}"));
+    unwritten(l).or(short).or_else(|| grey_byte(l, picture))
+}
+
+pub fn of_file(l: &Layout, rows_per_strip: usize, planes_length: usize) -> Option<Fault> {
+    let Ok(d) = check_layout(l) else {
+        return of_layout(l);
+    };
+    let Layout { h, ch, .. } = *l;
+    first([
+        unwritten(l),
+        fault(l.order == ByteOrder::Big, Unsupported, "be planes are not written to a file, which is le"),
+        fault([2, 4].contains(&ch) && l.alpha == 0, Unsupported, format!("ch {ch} needs alpha 2, not 0, in a file")),
+        fault(ch > 2 && l.white, Unsupported, format!("ch {ch} does not go with white in a file")),
+        fault(
+            !(1..=h).contains(&rows_per_strip),
+            Invalid,
+            format!("rows per strip {rows_per_strip} is not 1 to h {h}"),
+        ),
+        short_planes(planes_length, d.scratch_length),
+    ])
 }
 
 /// The first byte of a bilevel picture that is neither black nor white.
@@ -146,7 +173,7 @@ fn grey_byte(l: &Layout, picture: &[u8]) -> Option<Fault> {
 #[cfg(test)]
 mod tests {
     use super::*;
-    use hamrisk::{check_strip, rendered, swap_components, written, ByteOrder};
+    use hamrisk::{check_strip, rendered, swap_components, written, written_file};
 
     /// The fault that is named is one that leads to the library's refusal; without a refusal there is none.
     #[track_caller]
@@ -208,6 +235,12 @@ mod tests {
                 let some = &content[..length];
                 assert_agrees(rendered(&l, some, some), of_render(&l, length, length));
                 assert_agrees(written(&l, some), of_planes(&l, some));
+            }
+            let little = Layout { order: ByteOrder::Little, ..l };
+            for (l, rows, length) in
+                [(l, 1, 9), (little, 0, 0), (little, 1, 9), (little, 2, 99), (little, usize::MAX, 0)]
+            {
+                assert_agrees(written_file(&l, rows, &[7; 99][..length]), of_file(&l, rows, length));
             }
         }
     }

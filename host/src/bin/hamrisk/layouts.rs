@@ -1,10 +1,10 @@
-//! The commands over pictures: render, planes.
+//! The commands over pictures and their planes: render, planes, wrap.
 
 use crate::args::Args;
 use crate::failure::Failure;
 use crate::pictures::Form;
 use crate::{faults, files};
-use hamrisk::{rendered, written, ByteOrder, Layout};
+use hamrisk::{advised_rows_per_strip, rendered, written, written_file, ByteOrder, Layout};
 use std::path::Path;
 
 pub fn render(args: &Args) -> Result<(), Failure> {
@@ -14,7 +14,8 @@ pub fn render(args: &Args) -> Result<(), Failure> {
     let raw = files::read(args.file(0))?;
     let picture = rendered(&layout, &file, &raw)
         .map_err(|refusal| Failure::refused("render", refusal, faults::of_render(&layout, file.len(), raw.len())))?;
-    let (header, bytes) = form.of_rendered(&layout, picture);
+    let (header, bytes) =
+        form.of_rendered(&layout, picture).map_err(|refusal| Failure::refused("render", refusal, None))?;
     files::write(args.file(1), &[header.as_bytes(), &bytes])
 }
 
@@ -24,6 +25,17 @@ pub fn planes(args: &Args) -> Result<(), Failure> {
     let planes = written(&layout, &picture)
         .map_err(|refusal| Failure::refused("planes", refusal, faults::of_planes(&layout, &picture)))?;
     files::write(args.file(1), &[&planes])
+}
+
+pub fn wrap(args: &Args) -> Result<(), Failure> {
+    let layout = layout(args)?;
+    // A layout that is refused is so with any number of rows.
+    let advised = advised_rows_per_strip(&layout).unwrap_or(1);
+    let rows = args.number_or("rows-per-strip", advised)?;
+    let planes = files::read(args.file(0))?;
+    let file = written_file(&layout, rows, &planes)
+        .map_err(|refusal| Failure::refused("wrap", refusal, faults::of_file(&layout, rows, planes.len())))?;
+    files::write(args.file(1), &[&file])
 }
 
 fn layout(args: &Args) -> Result<Layout, Failure> {

@@ -93,7 +93,8 @@ pub fn picture(args: &Args) -> Result<(), Failure> {
     let form = Form::asked(args.file(1), args.has("pnm"), &page.layout).map_err(|what| args.wrong(what.into()))?;
     let needed = page.derived.scratch_length + page.derived.output_length;
     let picture = hamrisk::picture(&asked.file, asked.page).map_err(|refusal| asked.too_large(refusal, needed))?;
-    let (header, bytes) = form.of_rendered(&page.layout, picture.bytes);
+    let (header, bytes) =
+        form.of_rendered(&page.layout, picture.bytes).map_err(|refusal| Failure::refused("picture", refusal, None))?;
     asked.warn();
     files::write(args.file(1), &[header.as_bytes(), &bytes])
 }

@@ -1,6 +1,6 @@
-//! Pictures as PGM, PPM and PAM files, which most viewers show.
+//! Pictures as TIFF, PGM, PPM and PAM files, which most viewers show.
 
-use hamrisk::Layout;
+use hamrisk::{advised_rows_per_strip, written, written_file, ByteOrder, Layout, Refusal};
 use std::path::Path;
 
 /// What a picture is written as.
@@ -12,6 +12,8 @@ pub enum Form {
     Pnm,
     /// A PAM, which has room for alpha.
     Pam,
+    /// A TIFF, which has room for alpha.
+    Tiff,
 }
 
 impl Form {
@@ -24,22 +26,42 @@ impl Form {
             (Some("pgm"), true) => Err("a .pgm is grey, and this picture has colours: call OUT .ppm or .pnm"),
             (Some("ppm"), false) => Err("a .ppm has colours, and this picture is grey: call OUT .pgm or .pnm"),
             (Some("pam"), _) => Ok(Form::Pam),
+            (Some("tif" | "tiff"), _) if layout.alpha == 0 && [2, 4].contains(&layout.ch) => {
+                Err("a .tif has two or four channels with alpha alone: call OUT .pam")
+            }
+            (Some("tif" | "tiff"), _) => Ok(Form::Tiff),
             // Bytes alone under such a name would be taken for a damaged file.
-            (Some("bmp" | "gif" | "jpeg" | "jpg" | "pbm" | "png" | "tif" | "tiff" | "webp"), _) => {
-                Err("such a file is not written: call OUT .pgm, .ppm, .pnm or .pam to look at it")
+            (Some("bmp" | "gif" | "jpeg" | "jpg" | "pbm" | "png" | "webp"), _) => {
+                Err("such a file is not written: call OUT .tif, .pgm, .ppm, .pnm or .pam to look at it")
             }
             _ => Ok(Form::Bytes),
         }
     }
 
-    /// The header of a rendered picture, and its bytes.
-    pub fn of_rendered(self, layout: &Layout, picture: Vec<u8>) -> (String, Vec<u8>) {
-        match self {
+    /// The header of a rendered picture, and its bytes; a TIFF is told as bytes alone.
+    pub fn of_rendered(self, layout: &Layout, picture: Vec<u8>) -> Result<(String, Vec<u8>), Refusal> {
+        Ok(match self {
             Form::Bytes => (String::new(), picture),
             Form::Pnm => without_alpha(layout, picture),
             Form::Pam => (pam_header(layout), picture),
-        }
+            Form::Tiff => (String::new(), tiff(layout, &picture)?),
+        })
     }
+}
+
+/// A TIFF file of a rendered picture.
+pub fn tiff(layout: &Layout, picture: &[u8]) -> Result<Vec<u8>, Refusal> {
+    let layout = layout_of_tiff(layout);
+    let planes = written(&layout, picture)?;
+    written_file(&layout, advised_rows_per_strip(&layout)?, &planes)
+}
+
+/// How a TIFF holds a rendered picture: planes together, 0 black, colours not multiplied by alpha; bilevel stays so.
+fn layout_of_tiff(layout: &Layout) -> Layout {
+    let Layout { w, h, ch, bytes, .. } = *layout;
+    let slots = if layout.palette { 1 } else { layout.slots };
+    let alpha = if layout.alpha == 0 { 0 } else { 2 };
+    Layout { ch, bytes, slots, alpha, ..Layout::grey(w, h, ByteOrder::Little) }
 }
 
 fn has_colours(layout: &Layout) -> bool {
