@@ -1,7 +1,9 @@
 //! Files that tifffile, Pillow and libtiff write, and what each reads of its own, held against [`hamrisk::picture`]: a
-//! few that are kept in `tests/files`, and fresh ones of `make.py` where the three are installed.
+//! few that are kept in `tests/files`, and fresh ones of `make.py` where the three are installed. There they also read
+//! files that we write, by `read.py`.
 
-use hamrisk::{picture, rendered, samples, Refusal};
+use hamrisk::ByteOrder::Little;
+use hamrisk::{advised_rows_per_strip, check_layout, picture, rendered, samples, written_file, Layout, Refusal};
 use std::fs;
 use std::path::{Path, PathBuf};
 use std::process::Command;
@@ -81,17 +83,83 @@ fn python() -> Option<String> {
     std::env::var("HAMRISK_PEERS").ok().or_else(|| installed().then(|| usual.into()))
 }
 
-#[test]
-fn fresh_files() {
+/// A folder of this test's own, and what a script prints of it; nothing where the peers are not installed.
+fn run_script(script: &str, fill: impl Fn(&Path), look: impl Fn(&Path, &str)) {
     let Some(python) = python() else {
-        eprintln!("tifffile, Pillow or libtiff's tools are not installed: no fresh files are made");
+        eprintln!("tifffile, Pillow or libtiff's tools are not installed: {script} is not run");
         return;
     };
-    let folder = Path::new(env!("CARGO_TARGET_TMPDIR")).join(format!("peers-{}", std::process::id()));
+    let folder = Path::new(env!("CARGO_TARGET_TMPDIR")).join(format!("peers-{script}-{}", std::process::id()));
     fs::create_dir_all(&folder).unwrap();
-    let script = Path::new(env!("CARGO_MANIFEST_DIR")).join("tests/peers/make.py");
-    let made = Command::new(&python).arg(script).arg(&folder).output().expect("HAMRISK_PEERS is a Python");
-    assert!(made.status.success(), "{}", String::from_utf8_lossy(&made.stderr));
-    assert_kinds(&compare(&folder));
+    fill(&folder);
+    let path = Path::new(env!("CARGO_MANIFEST_DIR")).join("tests/peers").join(script);
+    // B: no compiled modules beside the scripts
+    let run = Command::new(&python).arg("-B").arg(path).arg(&folder).output().expect("HAMRISK_PEERS is a Python");
+    assert!(run.status.success(), "{}", String::from_utf8_lossy(&run.stderr));
+    look(&folder, &String::from_utf8(run.stdout).unwrap());
     fs::remove_dir_all(&folder).unwrap();
+}
+
+#[test]
+fn fresh_files() {
+    run_script("make.py", |_| (), |folder, _| assert_kinds(&compare(folder)));
+}
+
+/// Every kind of layout that is written to a file, by name, one of many columns and rows among them.
+fn layouts() -> Vec<(&'static str, Layout)> {
+    let (grey, colour) = (Layout::grey(13, 7, Little), Layout::colour(13, 7, Little));
+    let bilevel = Layout::bilevel(13, 7, Little);
+    let wide = |l: Layout| Layout { bytes: 2, ..l };
+    let white = |l: Layout| Layout { white: true, ..l };
+    let alpha = |l: Layout| Layout { ch: l.ch + 1, alpha: 2, ..l };
+    let apart = |l: Layout| Layout { separate: true, ..l };
+    vec![
+        ("grey", grey),
+        ("grey-apart", apart(grey)),
+        ("grey-large", Layout { w: 300, h: 61, ..grey }),
+        ("grey-white", white(grey)),
+        ("grey16", wide(grey)),
+        ("grey16-white", white(wide(grey))),
+        ("bilevel", bilevel),
+        ("bilevel-apart", apart(bilevel)),
+        ("bilevel-white", white(bilevel)),
+        ("colour", colour),
+        ("colour-apart", apart(colour)),
+        ("colour16", wide(colour)),
+        ("colour16-apart", apart(wide(colour))),
+        ("grey-alpha", alpha(grey)),
+        ("grey-alpha-apart", apart(alpha(grey))),
+        ("grey-alpha-white", white(alpha(grey))),
+        ("colour-alpha", alpha(colour)),
+        ("colour-alpha-apart", apart(alpha(colour))),
+    ]
+}
+
+/// Bytes that look random.
+fn noise(n: usize) -> Vec<u8> {
+    (0..n as u32).map(|k| (k.wrapping_mul(0x9E37_79B9) >> 13) as u8).collect()
+}
+
+/// Writes a file of each layout in strips of one row, of three with a shorter last one, of all, and of those advised, and
+/// beside it the picture of its planes.
+fn write_files(folder: &Path) {
+    for (name, l) in layouts() {
+        let planes = noise(check_layout(&l).unwrap().scratch_length);
+        let expected = rendered(&l, &[], &planes).unwrap();
+        for rows in [1, 3, l.h, advised_rows_per_strip(&l).unwrap()] {
+            let path = folder.join(format!("{name}-{rows}"));
+            fs::write(path.with_extension("tif"), written_file(&l, rows, &planes).unwrap()).unwrap();
+            fs::write(path.with_extension("0.picture"), &expected).unwrap();
+        }
+    }
+}
+
+/// tifffile and libtiff read all of them; Pillow lacks 16 bits with 0 white or in colour, and grey with alpha apart or with
+/// 0 white.
+#[test]
+fn files_that_we_write() {
+    run_script("read.py", write_files, |folder, said| {
+        assert_eq!(compare(folder).len(), 55);
+        assert_eq!(said, "tifffile 55 pillow 40 libtiff 55\n");
+    });
 }

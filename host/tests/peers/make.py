@@ -56,6 +56,14 @@ def differences(samples):
     return result
 
 
+def inverted(samples, alpha):
+    """Samples of which 0 is white; alpha, where there is one, stays."""
+    result = numpy.iinfo(samples.dtype).max - samples
+    if alpha:
+        result[..., -1] = samples[..., -1]
+    return result
+
+
 def picture(samples):
     """The bytes of a picture whose channels are side by side."""
     return samples.astype(samples.dtype.newbyteorder(">")).tobytes()
@@ -90,7 +98,7 @@ def from_tifffile(page):
     else:
         # asarray of tifffile 2023.2.3 fails on prediction without compression; strip by strip it is undone
         samples = numpy.concatenate([strip[0] for strip, _, _ in page.segments()]).reshape(page.shape)
-    if page.planarconfig == 2:
+    if page.planarconfig == 2 and page.samplesperpixel > 1:
         samples = numpy.moveaxis(samples, 0, -1)
     if page.photometric == tifffile.PHOTOMETRIC.PALETTE:
         # three rows of colours of two bytes
@@ -98,7 +106,7 @@ def from_tifffile(page):
     if samples.dtype == bool:
         samples = samples.astype(numpy.uint8) * 255
     if page.photometric == tifffile.PHOTOMETRIC.MINISWHITE:
-        samples = numpy.iinfo(samples.dtype).max - samples
+        samples = inverted(samples, page.extrasamples)
     if page.extrasamples == (ASSOCIATED,):
         samples = divided(samples)
     return picture(samples)
@@ -255,9 +263,9 @@ class Libtiff:
                 row = ctypes.c_void_p(planes[plane, y].ctypes.data)
                 assert self.library.TIFFReadScanline(file, row, y, plane) == 1
         samples = numpy.moveaxis(planes, 0, -1) if apart else planes.reshape(h, w, channels)
-        if self.get(file, 262) == 0:
-            samples = numpy.iinfo(dtype).max - samples
         kind = self.extra(file)
+        if self.get(file, 262) == 0:
+            samples = inverted(samples, kind)
         return picture(divided(samples) if kind == ASSOCIATED else samples)
 
     def extra(self, file):
