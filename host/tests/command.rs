@@ -4,7 +4,7 @@
 mod runner;
 mod tiff;
 
-use hamrisk::{ByteOrder, Coding, Strip};
+use hamrisk::{read_directory, ByteOrder, Coding, Layout, Strip};
 use std::ffi::OsStr;
 use std::fs;
 use std::io::{ErrorKind, Write};
@@ -255,6 +255,17 @@ fn refusals_name_the_number() {
         ),
         ("planes in out --w 2 --h 2 --ch 2 --alpha 1", 1, "alpha 1 is not written"),
         ("planes in out --w 13 --h 1", 3, "the picture has 12 bytes and needs 13"),
+        ("wrap in out --w 2 --h 0", 2, "h 0 leaves no picture"),
+        ("wrap in out --w 2 --h 2 --ch 3 --palette --le", 1, "a palette is not written"),
+        ("wrap in out --w 2 --h 2 --bytes 8 --le", 1, "bytes 8 is not written"),
+        ("wrap in out --w 2 --h 2 --ch 2 --alpha 1", 1, "alpha 1 is not written"),
+        ("wrap in out --w 2 --h 2 --be", 1, "be planes are not written to a file, which is le"),
+        ("wrap in out --w 2 --h 2 --ch 4", 1, "ch 4 needs alpha 2, not 0, in a file"),
+        ("wrap in out --w 2 --h 2 --ch 3 --white", 1, "ch 3 does not go with white in a file"),
+        ("wrap in out --w 2 --h 2 --rows-per-strip 0", 2, "rows per strip 0 is not 1 to h 2"),
+        ("wrap in out --w 2 --h 2 --rows-per-strip 3", 2, "rows per strip 3 is not 1 to h 2"),
+        ("wrap in out --w 13 --h 1", 3, "the planes have 12 bytes and need 13"),
+        ("wrap in out --w 1 --h 16385 --rows-per-strip 0", 5, "h 16385 is above 16384"),
     ] {
         let call = line.split(' ').next().unwrap();
         let kind = ["", "Unsupported", "Invalid", "Truncated", "OutputTooSmall", "Limit"][status as usize];
@@ -280,7 +291,7 @@ fn a_byte_order_has_to_be_said() {
         }
         folder.wrong(call, &format!("{} --from x", strip(1)), "--from wants le or be, not 'x'");
     }
-    for call in ["render", "planes"] {
+    for call in ["render", "planes", "wrap"] {
         let words = "--le or --be is missing: bytes 2 wants a byte order";
         folder.wrong(call, "in out --w 1 --h 1 --bytes 2", words);
         let words = "one of --le and --be is wanted, not both";
@@ -349,6 +360,10 @@ fn wrong_command_lines_end_with_64() {
         "render in out --w 2 --h 1 --bytes 2 --le --be",
         "render in out --w 2 --h 1 --ch 3 --palette --le",
         "render in out --w 2 --h 1 --file in",
+        "wrap in out --w 2",
+        "wrap in --w 2 --h 1",
+        "wrap in out --w 2 --h 1 --rows-per-strip all",
+        "wrap in out --w 2 --h 1 --file in",
         "demo out",
         "info",
         "info in out",
@@ -421,6 +436,9 @@ fn every_command_stands_in_a_pipe() {
     ] {
         assert_eq!(folder.piped(input, line), (0, output.to_vec(), String::new()), "{line}");
     }
+    let file = hamrisk::written_file(&Layout::grey(2, 1, ByteOrder::Little), 1, &[8, 9]).unwrap();
+    assert_eq!(folder.piped(&[8, 9], "wrap - - --w 2 --h 1"), (0, file.clone(), String::new()));
+    assert_eq!(folder.piped(&file, "picture - -"), (0, vec![8, 9], String::new()));
     folder.put("in", &[0x40]);
     let colours = folder.get("colours");
     let from_stream = folder.piped(&colours, &format!("render in - {palette} --file -"));
@@ -461,6 +479,7 @@ fn a_refusal_leaves_standard_output_empty() {
     for (line, status, words) in [
         ("swap - - --width 2".into(), 2, "swap refused: 2 Invalid: length 3 is no multiple of width 2"),
         ("render - - --w 4 --h 1".into(), 3, "render refused: 3 Truncated: the planes have 3 bytes and need 4"),
+        ("wrap - - --w 4 --h 1".into(), 3, "wrap refused: 3 Truncated: the planes have 3 bytes and need 4"),
         (
             format!("convert - - {strip} --to le"),
             64,
@@ -510,9 +529,10 @@ fn help_of_each() {
     let folder = Folder::new("help");
     let (status, overview, _) = folder.run("--help");
     assert_eq!(status, 0);
-    for name in
-        ["info", "picture", "samples", "convert", "forward", "marks", "swap", "reverse", "render", "planes", "demo"]
-    {
+    for name in [
+        "info", "picture", "samples", "convert", "forward", "marks", "swap", "reverse", "render", "planes", "wrap",
+        "demo",
+    ] {
         assert!(overview.contains(&format!("\n  {name} ")), "{name}");
         let (status, text, error) = folder.run(&format!("{name} --help"));
         assert_eq!((status, error.as_str()), (0, ""));
@@ -526,6 +546,7 @@ fn help_of_each() {
         ("swap", "bytes of a group, 1 to 8; required"),
         ("render", "columns of the picture, 1 to 16384; required"),
         ("planes", "channels of a pixel of the picture, 1 to 4; 1 if not given"),
+        ("wrap", "rows of a strip, 1 to h; as many as take 8192 bytes or fewer, but one at least, if not given"),
         ("info", "which page, 0 to 15; 0, the first, if not given"),
     ] {
         let (_, text, _) = folder.run(&format!("{name} --help"));
@@ -704,12 +725,115 @@ fn picture_by_the_name_of_out() {
     for (line, words) in [
         ("picture grey a.ppm", "a .ppm has colours, and this picture is grey: call OUT .pgm or .pnm"),
         ("picture colours a.pgm", "a .pgm is grey, and this picture has colours: call OUT .ppm or .pnm"),
-        ("picture colours a.png", "such a file is not written: call OUT .pgm, .ppm, .pnm or .pam to look at it"),
+        ("picture colours a.png", "such a file is not written: call OUT .tif, .pgm, .ppm, .pnm or .pam to look at it"),
     ] {
         let said = format!("hamrisk: picture: {words}; see hamrisk picture --help\n");
         assert_eq!(folder.run(line), (64, String::new(), said));
     }
     assert_eq!(folder.names(), ["alpha", "colours", "grey"]);
+}
+
+/// The page that a file of the folder has.
+fn page_of(folder: &Folder, name: &str) -> hamrisk::Page {
+    read_directory(&folder.get(name), 0).unwrap()
+}
+
+#[test]
+fn wrap_planes() {
+    let folder = Folder::new("wrap");
+    let planes: Vec<u8> = (0..2 * 30 * 50).map(|n| (n % 251) as u8).collect();
+    folder.put("planes", &planes);
+    for (options, layout) in [
+        ("--w 60 --h 50", Layout::grey(60, 50, ByteOrder::Little)),
+        ("--w 60 --h 50 --le --white", Layout { white: true, ..Layout::grey(60, 50, ByteOrder::Little) }),
+        ("--w 30 --h 50 --bytes 2 --le", Layout { bytes: 2, ..Layout::grey(30, 50, ByteOrder::Little) }),
+        ("--w 475 --h 50 --slots 8", Layout::bilevel(475, 50, ByteOrder::Little)),
+        ("--w 20 --h 50 --ch 3 --separate", Layout { separate: true, ..Layout::colour(20, 50, ByteOrder::Little) }),
+        ("--w 15 --h 50 --ch 4 --alpha 2", Layout { ch: 4, alpha: 2, ..Layout::grey(15, 50, ByteOrder::Little) }),
+    ] {
+        for (rows, given) in [("", 50), ("--rows-per-strip 50", 50), ("--rows-per-strip=7", 7)] {
+            let line = format!("wrap planes OUT.tif {options} {rows}");
+            assert_eq!(folder.run(&line), (0, String::new(), String::new()), "{line}");
+            assert_eq!(folder.get("OUT.tif"), hamrisk::written_file(&layout, given, &planes).unwrap(), "{line}");
+            assert_eq!(folder.run("samples OUT.tif out --to le").0, 0);
+            assert_eq!(folder.get("out"), planes, "{line}");
+            assert_eq!(page_of(&folder, "OUT.tif").layout, layout);
+        }
+    }
+    assert_eq!(folder.run("wrap planes out --w 300 --h 10").0, 0, "any name serves");
+    assert_eq!(page_of(&folder, "out").strips, 1, "27 rows have at most 8192 bytes, and there are 10");
+    assert_eq!(folder.run("wrap planes out --w 1 --h 2").0, 0, "bytes past the planes are not looked at");
+    assert_eq!(hamrisk::picture(&folder.get("out"), 0).unwrap().bytes, [0, 1]);
+}
+
+/// Strips of 8192 bytes or a little fewer, where nothing else is said.
+#[test]
+fn wrap_in_advised_strips() {
+    let folder = Folder::new("wrap-rows");
+    folder.put("planes", &[7; 60_000]);
+    for (options, strips, first) in [("--w 300 --h 200", 8, 8_100), ("--w 10000 --h 2 --ch 3", 2, 30_000)] {
+        assert_eq!(folder.run(&format!("wrap planes out {options}")).0, 0);
+        assert_eq!(page_of(&folder, "out").strips, strips, "{options}");
+        assert_eq!(hamrisk::strip(&folder.get("out"), 0, 0).unwrap().len(), first, "{options}");
+    }
+}
+
+/// What `picture` makes of a page as a TIFF: little-endian, planes together, 0 black, alpha 2; bilevel stays so.
+#[test]
+fn picture_as_tiff() {
+    let folder = Folder::new("tiffs");
+    let alpha = Page::grey(2, 1, 8, &[&[100, 200, 9, 0]]).with(258, &[8, 8]).with(277, &[2]);
+    let mut map = vec![0; 48];
+    (map[1], map[16 + 1], map[32 + 1]) = (0x0A00, 0x1400, 0x1E00);
+    let grey = Layout::grey(2, 1, ByteOrder::Little);
+    let bilevel = Page::grey(9, 1, 1, &[&[0x80, 0x80]]);
+    for (page, layout) in [
+        (Page::grey(2, 1, 8, &[&[8, 9]]), grey),
+        (Page::grey(2, 1, 8, &[&[8, 9]]).with(262, &[0]), grey),
+        (Page::grey(2, 1, 16, &[&[1, 2, 3, 4]]), Layout { bytes: 2, ..grey }),
+        (colours(), Layout { ch: 3, ..grey }),
+        (colours().with(258, &[16; 3]).with(279, &[12]).with(273, &[8]), Layout { ch: 3, bytes: 2, ..grey }),
+        (colours().with(284, &[2]).with(273, &[8, 10, 12]).with(279, &[2; 3]), Layout { ch: 3, ..grey }),
+        (alpha.clone().with(338, &[1]), Layout { ch: 2, alpha: 2, ..grey }),
+        (alpha.with(338, &[2]).with(262, &[0]), Layout { ch: 2, alpha: 2, ..grey }),
+        (bilevel.clone(), Layout::bilevel(9, 1, ByteOrder::Little)),
+        (bilevel.with(262, &[0]), Layout::bilevel(9, 1, ByteOrder::Little)),
+        (Page::grey(2, 1, 4, &[&[0x10]]).with(262, &[3]).with(320, &map), Layout { ch: 3, ..grey }),
+        (Page::grey(2, 1, 1, &[&[0x40]]).with(262, &[3]).with(320, &[7 << 8; 6]), Layout { ch: 3, ..grey }),
+    ] {
+        let file = tiff::file(ByteOrder::Big, &[page]);
+        folder.put("in", &file);
+        for out in ["a.tif", "a.TIFF", "a.tiff"] {
+            assert_eq!(folder.run(&format!("picture in {out}")), (0, String::new(), String::new()));
+            let found = page_of(&folder, out);
+            assert_eq!((found.layout, found.predict), (layout, false));
+            let ours = hamrisk::picture(&folder.get(out), 0).unwrap().bytes;
+            assert_eq!(ours, hamrisk::picture(&file, 0).unwrap().bytes, "{layout:?}");
+            fs::remove_file(folder.0.join(out)).unwrap();
+        }
+    }
+    assert_eq!(folder.names(), ["in"]);
+}
+
+/// Planes rendered to a TIFF; two or four channels are written with alpha alone.
+#[test]
+fn render_as_tiff() {
+    let folder = Folder::new("render-tiff");
+    folder.put("in", &[1, 2, 3, 4, 5, 6]);
+    assert_eq!(folder.run("render in a.tif --w 2 --h 1 --ch 3 --separate").0, 0);
+    assert_eq!(hamrisk::picture(&folder.get("a.tif"), 0).unwrap().bytes, [1, 3, 5, 2, 4, 6]);
+    assert_eq!(page_of(&folder, "a.tif").layout, Layout::colour(2, 1, ByteOrder::Little));
+    assert_eq!(folder.run("render in b.tif --w 1 --h 1 --ch 2 --alpha 1").0, 0);
+    assert_eq!(page_of(&folder, "b.tif").layout.alpha, 2);
+    let words = "a .tif has two or four channels with alpha alone: call OUT .pam";
+    for line in ["render in c.tif --w 1 --h 1 --ch 2", "render in c.tif --w 1 --h 1 --ch 4 --bytes 1"] {
+        let said = format!("hamrisk: render: {words}; see hamrisk render --help\n");
+        assert_eq!(folder.run(line), (64, String::new(), said));
+    }
+    let said = "hamrisk: render refused: 3 Truncated: the planes have 6 bytes and need 7\n";
+    assert_eq!(folder.run("render in c.tif --w 7 --h 1"), (3, String::new(), said.into()));
+    assert_eq!(folder.run("picture in c.tif").0, 3);
+    assert_eq!(folder.names(), ["a.tif", "b.tif", "in"]);
 }
 
 #[test]
@@ -845,10 +969,14 @@ fn demo_marks_all_that_came_out_wrong() {
     assert_eq!((status, error.as_str()), (0, ""));
     assert!(text.contains("111 bare places came out full"), "{text}");
     assert!(text.contains("192 samples are marked; 0 came out wrong without a mark"), "{text}");
-    for name in ["shelf.pgm", "plain.pgm", "marks.pgm"] {
-        let picture = folder.get(&format!("pictures/{name}"));
-        assert!(picture.starts_with(b"P5\n576 192\n255\n"));
-        assert_eq!(picture.len(), 15 + 576 * 192);
+    assert!(text.contains("Pictures: shelf, plain and marks, each as .pgm and as .tif, in pictures"), "{text}");
+    for name in ["shelf", "plain", "marks"] {
+        let picture = folder.get(&format!("pictures/{name}.pgm"));
+        let (header, pixels) = picture.split_at(15);
+        assert_eq!(header, b"P5\n576 192\n255\n");
+        let tiff = hamrisk::picture(&folder.get(&format!("pictures/{name}.tif")), 0).unwrap();
+        assert_eq!(tiff.page.layout, Layout::grey(576, 192, ByteOrder::Little));
+        assert!(tiff.bytes == pixels, "{name}");
     }
     assert_eq!(folder.run("demo --to pictures"), (0, text, String::new()));
 }
