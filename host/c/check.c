@@ -1,6 +1,6 @@
 /*
- * The cases A, C, D, E, F, I, J and L of docs/RULES.md, a small TIFF file, and some refusals, through include/hamrisk.h. Prints a
- * line for each check that differs and one of counts; ends with 1 if any differs.
+ * The cases A, C, D, E, F, I, J and L of docs/RULES.md, a small TIFF file read and one written, and some refusals, through
+ * include/hamrisk.h. Prints a line for each check that differs and one of counts; ends with 1 if any differs.
  */
 #include "hamrisk.h"
 
@@ -238,12 +238,49 @@ static void files(void) {
                              && holds(out, picture, 8));
 }
 
+/* Bytes of a file of three rows of two grey pixels, a strip for each row: header, directory, values of four tags, strips. */
+enum { WRITTEN_PLANES = 8 + 2 + 14 * 12 + 4 + 2 * 12 + 2 * 8, WRITTEN_LEN = WRITTEN_PLANES + 6 };
+
+static void written(void) {
+    const hamrisk_layout grey = {.w = 2, .h = 3, .ch = 1, .bytes = 1, .slots = 1, .le = 1, .map = 9};
+    const hamrisk_layout big = {.w = 2, .h = 3, .ch = 1, .bytes = 1, .slots = 1};
+    const hamrisk_layout flag = {.w = 2, .h = 3, .ch = 1, .bytes = 1, .slots = 1, .le = 2};
+    const uint8_t planes[6] = {1, 2, 3, 4, 5, 6};
+    const size_t places[6] = {WRITTEN_PLANES, 2, WRITTEN_PLANES + 2, 2, WRITTEN_PLANES + 4, 2};
+    uint8_t file[WRITTEN_LEN + 1];
+    hamrisk_page found;
+    size_t parts[6];
+    size_t length = 77;
+
+    memset(file, CANARY, sizeof file);
+    check("a file of be, and of a flag of 2", hamrisk_file_length(&big, 1, &length) == HAMRISK_UNSUPPORTED
+                                                  && hamrisk_file_length(&flag, 0, &length) == HAMRISK_UNSUPPORTED
+                                                  && length == 77);
+    check("strips of 0 rows, and of 4", hamrisk_file_length(&grey, 0, &length) == HAMRISK_INVALID
+                                            && hamrisk_file_length(&grey, 4, &length) == HAMRISK_INVALID && length == 77);
+    check("short planes, before a short file",
+          hamrisk_write_file(&grey, 1, planes, 5, file, 0, &length) == HAMRISK_TRUNCATED && length == 77);
+    check("a short file", hamrisk_write_file(&grey, 1, planes, 6, file, WRITTEN_LEN - 1, &length) == HAMRISK_OUTPUT_TOO_SMALL
+                              && length == 77 && file[0] == CANARY && file[WRITTEN_PLANES] == CANARY);
+    check("its length", hamrisk_file_length(&grey, 1, &length) == HAMRISK_DONE && length == WRITTEN_LEN);
+    length = 77;
+    check("a file", hamrisk_write_file(&grey, 1, planes, 6, file, sizeof file, &length) == HAMRISK_DONE
+                        && length == WRITTEN_LEN && memcmp(file, "II*", 4) == 0
+                        && memcmp(file + WRITTEN_PLANES, planes, 6) == 0 && file[WRITTEN_LEN] == CANARY);
+    check("read back", hamrisk_directory(file, length, 0, &found) == HAMRISK_DONE && found.layout.w == 2 && found.layout.h == 3
+                           && found.layout.ch == 1 && found.layout.bytes == 1 && found.layout.le == 1 && found.layout.map == 0
+                           && found.predictor == 1 && found.strips == 3);
+    check("its strips",
+          hamrisk_strips(file, length, 0, parts, 6) == HAMRISK_DONE && memcmp(parts, places, sizeof parts) == 0);
+}
+
 int main(void) {
     samples();
     bytes();
     damage();
     pictures();
     files();
+    written();
     printf("%d checks, %d differ\n", checks, differ);
     return differ == 0 ? 0 : 1;
 }

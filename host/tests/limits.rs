@@ -4,8 +4,8 @@ mod tiff;
 
 use hamrisk::limits::{self, Served, MOST_ENTRIES, MOST_PAGES, MOST_PICTURE_BYTES, MOST_SIDE};
 use hamrisk::{
-    check_layout, check_strip, read_directory, read_word, rendered, swap_components, written, ByteAt, ByteOrder,
-    Layout, Refusal, Strip,
+    check_layout, check_strip, file_length, read_directory, read_word, rendered, swap_components, written, ByteAt,
+    ByteOrder, Layout, Refusal, Strip,
 };
 use tiff::Page;
 
@@ -63,6 +63,7 @@ fn pictures_rendered_and_written() {
     let of_alpha = |alpha| Layout { ch: 2, alpha, ..DOT };
     assert_served("alpha", limits::LAYOUT_ALPHAS, |alpha| passes(rendered(&of_alpha(alpha), &[], &content)));
     assert_served("alpha", limits::WRITTEN_ALPHAS, |alpha| passes(written(&of_alpha(alpha), &content)));
+    assert_served("bytes", limits::RENDERED_BYTES, |bytes| passes(file_length(&of_bytes(bytes), 1)));
 }
 
 #[test]

@@ -46,7 +46,7 @@ int main(void) {
 }
 
 #[test]
-fn the_installed_library_serves_c_and_cpp() {
+fn what_is_installed_serves_c_cpp_and_a_shell() {
     let here = folder("install");
     let prefix = here.join("prefix");
     let install = Command::new(root().join("hamrisk")).arg("install").arg(&prefix).output().expect("the script runs");
@@ -78,6 +78,12 @@ fn the_installed_library_serves_c_and_cpp() {
             runner::program(&program).env("LD_LIBRARY_PATH", prefix.join("lib")).output().expect("the program runs");
         assert_eq!(said(&run), "0 639\n", "{language}");
     }
+    for words in [&["wrap", "example.c", "wrapped.tif", "--w=9", "--h=9"][..], &["samples", "wrapped.tif", "planes"]] {
+        let command = prefix.join("bin/hamrisk");
+        let run = runner::program(command).args(words).current_dir(&here).output().expect("the command runs");
+        assert_eq!(said(&run), "", "{words:?}");
+    }
+    assert_eq!(fs::read(here.join("planes")).expect("planes are written"), example().as_bytes()[..81]);
 }
 
 /// The script in a folder where nothing is built, with these tools alone on its path.
