@@ -395,3 +395,62 @@ pub fn write_planes(l: &Layout, picture: &[u8], planes: &mut [u8]) -> bool {
     }
     true
 }
+
+/// Bytes at a place, which moves past them.
+fn put<const N: usize>(out: &mut [u8], at: &mut usize, bytes: [u8; N]) {
+    out[*at..*at + N].copy_from_slice(&bytes);
+    *at += N;
+}
+
+fn put_long(out: &mut [u8], at: &mut usize, value: usize) {
+    put(out, at, (value as u32).to_le_bytes());
+}
+
+/// Tag, type, count and last four bytes of each entry.
+fn put_entries(out: &mut [u8], at: &mut usize, entries: &[(u16, u16, usize, usize)]) {
+    put(out, at, (entries.len() as u16).to_le_bytes());
+    for &(tag, kind, count, value) in entries {
+        put(out, at, tag.to_le_bytes());
+        put(out, at, kind.to_le_bytes());
+        put_long(out, at, count);
+        put_long(out, at, value);
+    }
+    put_long(out, at, 0);
+}
+
+/// The file of a grey picture of 8 bits.
+#[inline(never)]
+pub fn write_grey_file(w: usize, h: usize, rows_per_strip: usize, planes: &[u8], out: &mut [u8]) {
+    let strips = h.div_ceil(rows_per_strip);
+    let list = if strips > 1 { 4 * strips } else { 0 };
+    let places = 8 + 2 + 12 * 14 + 4;
+    let (lengths, resolutions) = (places + list, places + 2 * list);
+    let first = resolutions + 16;
+    let strip = w * rows_per_strip;
+    let listed = |at: usize, value: usize| if strips > 1 { at } else { value };
+    let entries = [
+        (256, 3, 1, w),
+        (257, 3, 1, h),
+        (258, 3, 1, 8),
+        (259, 3, 1, 1),
+        (262, 3, 1, 1),
+        (273, 4, strips, listed(places, first)),
+        (277, 3, 1, 1),
+        (278, 4, 1, rows_per_strip),
+        (279, 4, strips, listed(lengths, strip)),
+        (282, 5, 1, resolutions),
+        (283, 5, 1, resolutions + 8),
+        (284, 3, 1, 1),
+        (296, 3, 1, 1),
+        (317, 3, 1, 1),
+    ];
+    let mut at = 0;
+    put(out, &mut at, *b"II*\0\x08\0\0\0");
+    put_entries(out, &mut at, &entries);
+    if strips > 1 {
+        (0..strips).for_each(|k| put_long(out, &mut at, first + k * strip));
+        (0..strips).for_each(|k| put_long(out, &mut at, strip.min(w * h - k * strip)));
+    }
+    (0..4).for_each(|_| put_long(out, &mut at, 1));
+    out[at..].copy_from_slice(planes);
+}

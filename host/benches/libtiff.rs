@@ -42,8 +42,8 @@ pub struct Libtiff {
 
 /// A file in memory.
 #[derive(Default)]
-struct Memory {
-    bytes: Vec<u8>,
+pub struct Memory {
+    pub bytes: Vec<u8>,
     at: usize,
 }
 
@@ -57,12 +57,15 @@ unsafe extern "C" fn read(m: Handle, to: *mut c_void, n: isize) -> isize {
 
 unsafe extern "C" fn write(m: Handle, from: *mut c_void, n: isize) -> isize {
     let m = &mut *(m as *mut Memory);
-    let end = m.at + n as usize;
-    if m.bytes.len() < end {
-        m.bytes.resize(end, 0);
+    let from = std::slice::from_raw_parts(from as *const u8, n as usize);
+    if m.bytes.len() < m.at {
+        m.bytes.resize(m.at, 0);
     }
-    std::ptr::copy_nonoverlapping(from as *const u8, m.bytes[m.at..].as_mut_ptr(), n as usize);
-    m.at = end;
+    // what stands there is written over, the rest comes behind it
+    let (over, behind) = from.split_at(from.len().min(m.bytes.len() - m.at));
+    m.bytes[m.at..m.at + over.len()].copy_from_slice(over);
+    m.bytes.extend_from_slice(behind);
+    m.at += from.len();
     n
 }
 
@@ -199,6 +202,24 @@ impl Libtiff {
             let keep = &memory;
             let n = unsafe { (self.read)(tiff, 0, out.as_mut_ptr(), out.len() as isize) };
             assert!(n == out.len() as isize && !keep.bytes.is_empty());
+        }
+    }
+
+    /// A file of a grey picture, little-endian and not compressed, its strips handed over one by one.
+    pub fn write_grey_file(&self, w: usize, h: usize, rows_per_strip: usize, planes: &[u8], memory: &mut Memory) {
+        memory.bytes.clear();
+        memory.at = 0;
+        unsafe {
+            let tiff = self.opened(memory, "wl");
+            for (tag, value) in
+                [(256, w), (257, h), (258, 8), (259, 1), (262, 1), (277, 1), (278, rows_per_strip), (284, 1)]
+            {
+                (self.set)(tiff, tag, value as c_int);
+            }
+            for (k, strip) in planes.chunks(w * rows_per_strip).enumerate() {
+                assert!((self.write)(tiff, k as u32, strip.as_ptr(), strip.len() as isize) > 0);
+            }
+            (self.close)(tiff);
         }
     }
 

@@ -2,6 +2,7 @@
 //! `cargo bench` prints the tables of docs/SPEED.md; `cargo bench -- render 65536` those of one call and size.
 mod by_hand;
 mod directories;
+mod files;
 mod libtiff;
 
 use hamrisk::limits::MOST_SIDE;
@@ -300,6 +301,7 @@ fn least(run: &Run) {
     let coding = Coding { from: ByteOrder::Little, to: ByteOrder::Little, predict: false };
     let grey = Layout::grey(1, 1, ByteOrder::Little);
     let mut out = [0; 2];
+    let mut file = [0; 199];
     println!("\n| call | ns |\n|---|---|");
     for (what, t) in [
         ("convert, nothing", seconds(|| hamrisk::convert(black_box(&[]), strip, coding, &mut out).unwrap())),
@@ -308,6 +310,10 @@ fn least(run: &Run) {
         ("check_layout, one byte", seconds(|| assert!(hamrisk::check_layout(black_box(&grey)).is_ok()))),
         ("render, one byte", seconds(|| hamrisk::render(black_box(&grey), &[], &[7], &mut out).unwrap())),
         ("write_planes, one byte", seconds(|| hamrisk::write_planes(black_box(&grey), &[7], &mut out).unwrap())),
+        (
+            "write_file, one byte",
+            seconds(|| assert!(hamrisk::write_file(black_box(&grey), 1, &[7], &mut file).is_ok())),
+        ),
     ] {
         if run.has(what.split(',').next().unwrap()) {
             println!("| {what} | {:.1} |", t * 1e9);
@@ -364,5 +370,8 @@ fn main() {
     predicted(&run);
     if run.has("read_directory, strip_places, strip_place") {
         directories::print(run.libtiff.as_ref());
+    }
+    if run.has("write_file") {
+        files::print(run.libtiff.as_ref());
     }
 }
