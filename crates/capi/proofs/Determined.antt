@@ -27,6 +27,8 @@ use Rattle.writing.proofs.Determined.{write-planes-determined}
 use Rattle.directory.specs.Page.{DirectoryRead, StripPlaced, StripsPlaced}
 use Rattle.directory.proofs.Determined.{read-directory-determined, strip-place-determined, strip-places-determined}
 use Rattle.capi.specs.OnPages.{foundNumbers, placeNumbers}
+use Rattle.files.specs.File.{writtenOutcome, Measured, FileWritten}
+use Rattle.files.proofs.Determined.{file-length-determined, write-file-determined}
 use Rattle.capi.specs.Told.{status, lent, derivedOutcome, Told, Lent}
 use Rattle.capi.specs.OnLayouts.{fieldsOf, flagged, OnLayout, RefusedUnserved}
 
@@ -102,6 +104,13 @@ module _ (r s : ℕ) where
 
     pub hamrisk-write-planes-determined : (picture old x y : List ℕ) → OnLayout layout (λ f. Told doneOutcome (λ d. Written (completed f) picture old d x) r) (RefusedUnserved r old x) → OnLayout layout (λ f. Told doneOutcome (λ d. Written (completed f) picture old d y) s) (RefusedUnserved s old y) → (r ≡ s) × (x ≡ y)
     hamrisk-write-planes-determined picture old x y = on-once (λ f. told-once (λ a b. write-planes-determined (completed f) picture old a b x y))
+
+    pub hamrisk-file-length-determined : (each old v w : ℕ) → OnLayout layout (λ f. Lent writtenOutcome (Measured (completed f) each) r old v) (RefusedUnserved r old v) → OnLayout layout (λ f. Lent writtenOutcome (Measured (completed f) each) s old w) (RefusedUnserved s old w) → (r ≡ s) × (v ≡ w)
+    hamrisk-file-length-determined each old v w = on-once (λ f t u. lent-once (λ a b p q. (file-length-determined (completed f) each a b p q, tt {0})) t u .0)
+
+    pub hamrisk-write-file-determined : (each : ℕ) (planes : List ℕ) (length m n : ℕ) (old x y : List ℕ) → OnLayout layout (λ f. Lent writtenOutcome (λ a. FileWritten (completed f) each planes old a x) r length m) (RefusedUnserved r (length, old) (m, x)) → OnLayout layout (λ f. Lent writtenOutcome (λ a. FileWritten (completed f) each planes old a y) s length n) (RefusedUnserved s (length, old) (n, y)) → (r ≡ s) × ((m, x) ≡ (n, y))
+    hamrisk-write-file-determined each planes length m n old x y =
+        on-once (λ f t u. let one = lent-once (λ a b. write-file-determined (completed f) each planes old a b x y) t u in (one .0 .0, rw (one .0 .1, one .1)))
 
 pub hamrisk-reverse-bits-determined : (old x y : List ℕ) → Reversed old x → Reversed old y → x ≡ y
 hamrisk-reverse-bits-determined = reverse-bits-determined

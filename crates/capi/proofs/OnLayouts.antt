@@ -1,4 +1,4 @@
--- The layout step, with which four calls begin: what it refuses, the call over the completed record refuses with the same number;
+-- The layout step, with which six calls begin: what it refuses, the call over the completed record refuses with the same number;
 -- and the record that it answers is the completed one, so that what is promised of one is promised of the other. Assumes nothing.
 use Prim.Native.Nat.{ℕ}
 use native.Mathlib.Omega.{arith}
@@ -19,6 +19,9 @@ use Rattle.layout.specs.declared.Place.the-variants as Place-is
 use Rattle.layout.specs.Layout.{completed, checkedOutcome, layoutFaults, recordFaults, indexFaults, sourceIndex, LayoutChecked, Indexed}
 use Rattle.pixels.specs.Render.{converted, renderFaults, Rendered}
 use Rattle.pixels.specs.Planes.{written, writeFaults, Written}
+use Rattle.files.specs.declared.Written.the-variants as Written-is
+use Rattle.files.specs.File.{fileLength, fileOf, askedFaults, Measured, FileWritten}
+use Rattle.files.specs.File as Files
 use Rattle.capi.specs.OnLayouts.{flagged, Asked}
 
 module _ (f : Fields) {answer : Checked} (checked : LayoutChecked f answer) where
@@ -35,6 +38,13 @@ module _ (f : Fields) {answer : Checked} (checked : LayoutChecked f answer) wher
   pub write-refused : {kind : Refusal} → answer ≡ Checked-is.Refused kind → (picture old : List ℕ) → Written (completed f) picture old (Done-is.Refused kind) old
   write-refused e picture old =
       let l = completed f in refuses (writeFaults l picture old) tt (table (l .«scratch_len») (written l picture)) old (first-more _ (refused-first e))
+
+  pub measure-refused : {kind : Refusal} → answer ≡ Checked-is.Refused kind → (each : ℕ) → Measured (completed f) each (Written-is.Refused kind)
+  measure-refused e each = refusing (askedFaults (completed f) each) (fileLength f each) (first-more _ (refused-first e))
+
+  pub file-refused : {kind : Refusal} → answer ≡ Checked-is.Refused kind → (each : ℕ) (planes old : List ℕ) → FileWritten (completed f) each planes old (Written-is.Refused kind) old
+  file-refused e each planes old =
+      let l = completed f in refuses (Files.writeFaults l each planes old) (fileLength f each) (fileOf f each planes) old (first-more _ (first-more _ (refused-first e)))
 
   pub handed-on : {l : RasterLayout} {N : Type 0} (Allowed : RasterLayout → N → Type 0) (x : N) → answer ≡ Checked-is.Done l → Allowed l x → Allowed (completed f) x
   handed-on {l} Allowed x e =

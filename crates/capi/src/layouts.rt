@@ -2,6 +2,7 @@
 use crate::status;
 use answer::ByteAt;
 use answer::Refusal;
+use files::Written;
 use layout::Checked;
 use layout::Fields;
 use layout::Place;
@@ -10,7 +11,8 @@ ghost use mathlib.Core.Path.{_≡_};
 ghost use Rattle.answer.specs.Outcome.{doneOutcome};
 ghost use Rattle.layout.specs.Layout.{completed, LayoutChecked, Indexed, placeOutcome};
 ghost use Rattle.pixels.specs.Render.{Rendered};
-ghost use Rattle.pixels.specs.Planes.{Written};
+ghost use Rattle.pixels.specs.Planes.{Written as PlanesWritten};
+ghost use Rattle.files.specs.File.{writtenOutcome, Measured, FileWritten};
 ghost use Rattle.capi.specs.Told.{Told, Lent, derivedOf, derivedOutcome};
 ghost use Rattle.capi.specs.OnLayouts.{fieldsOf, flagged as flaggedOf, OnLayout, Asked, RefusedUnserved};
 
@@ -128,10 +130,55 @@ pub extern "C" fn hamrisk_render(layout: &Layout, file: &[u8], raw: &[u8], out: 
 // The planes whose rendering is a picture.
 #[no_mangle]
 pub extern "C" fn hamrisk_write_planes(layout: &Layout, picture: &[u8], planes: &mut [u8]) -> u32
-    ensures { λ r. ⌜ OnLayout (now (layout .entry)) (λ f. Told doneOutcome (λ d. Written (completed f) (now (picture .entry)) (now (planes .entry)) d (now (planes .exit))) r) (RefusedUnserved r (now (planes .entry)) (now (planes .exit))) ⌝ }
+    ensures { λ r. ⌜ OnLayout (now (layout .entry)) (λ f. Told doneOutcome (λ d. PlanesWritten (completed f) (now (picture .entry)) (now (planes .entry)) d (now (planes .exit))) r) (RefusedUnserved r (now (planes .entry)) (now (planes .exit))) ⌝ }
 {
     match asked(layout) {
         Checked::Refused(kind) => answer::number(kind),
         Checked::Done(l) => status(writing::write_planes(l, picture, planes)),
+    }
+}
+
+// What a file's answer says: its length is lent back.
+fn length_of(w: Written, length: &mut usize) -> u32
+    ensures { λ r. ⌜ Lent writtenOutcome (λ a. a ≡ w) r (now (length .entry)) (now (length .exit)) ⌝ }
+{
+    match w {
+        Written::Refused(kind) => answer::number(kind),
+        Written::Length(n) => {
+            *length = n;
+            0
+        }
+    }
+}
+
+// The bytes of the file that planes of this layout make.
+#[no_mangle]
+pub extern "C" fn hamrisk_file_length(
+    layout: &Layout,
+    rows_per_strip: usize,
+    length: &mut usize,
+) -> u32
+    ensures { λ r. ⌜ OnLayout (now (layout .entry)) (λ f. Lent writtenOutcome (Measured (completed f) «rows_per_strip») r (now (length .entry)) (now (length .exit))) (RefusedUnserved r (now (length .entry)) (now (length .exit))) ⌝ }
+{
+    match asked(layout) {
+        Checked::Refused(kind) => answer::number(kind),
+        Checked::Done(l) => length_of(files::file_length(l, rows_per_strip), length),
+    }
+}
+
+// The file.
+#[no_mangle]
+pub extern "C" fn hamrisk_write_file(
+    layout: &Layout,
+    rows_per_strip: usize,
+    planes: &[u8],
+    out: &mut [u8],
+    length: &mut usize,
+) -> u32
+    ensures { λ r. ⌜ OnLayout (now (layout .entry)) (λ f. Lent writtenOutcome (λ a. FileWritten (completed f) «rows_per_strip» (now (planes .entry)) (now (out .entry)) a (now (out .exit))) r (now (length .entry)) (now (length .exit))) (RefusedUnserved r (now (length .entry), now (out .entry)) (now (length .exit), now (out .exit))) ⌝ }
+{
+    match asked(layout) {
+        Checked::Refused(kind) => answer::number(kind),
+        Checked::Done(l) => length_of(files::write_file(l, rows_per_strip, planes, out), length),
     }
 }

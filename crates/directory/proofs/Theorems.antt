@@ -65,11 +65,11 @@ rows-so-far rows each (suc q) = rw (rows-so-far rows each q) (by (decLt each (ro
     by (no g) = rw (le-ltb each (rows - q * each) (omega arith)) (omega (arith, more))
 
 -- enough strips for all rows, and no more
-enough : (rows each : ℕ) → 0 < each → rows ≤ stripsPerPlane rows each * each
+pub enough : (rows each : ℕ) → 0 < each → rows ≤ stripsPerPlane rows each * each
 unfolding stripsPerPlane
 enough rows each h = let n = rows + (each - 1) in omega (arith, div-add-mod' n each, mod-lt n h)
 
-most : (rows each : ℕ) → stripsPerPlane rows each * each ≤ rows + (each - 1)
+pub most : (rows each : ℕ) → stripsPerPlane rows each * each ≤ rows + (each - 1)
 unfolding stripsPerPlane
 most rows each = let n = rows + (each - 1) in omega (arith, div-add-mod' n each)
 
@@ -94,18 +94,21 @@ turned-round r m e c =
     ∙ sym (ap (λ (n : ℕ). n * m) (mul-assoc e r c) ∙ mul-assoc e (r * c) m ∙ ap (λ (n : ℕ). e * n) (ap (λ (n : ℕ). n * m) (mul-comm r c) ∙ mul-assoc c r m))
 
 -- strips of right lengths, as many as the rows need, are the planes
+pub strips-whole : (f : Fields) (each : ℕ) → 0 < each → sum (stripsPerPlane (f .h) each * planes f) (λ k. stripRows (f .h) each k * (encodedWidth f * planeChannels f)) ≡ scratchLength f
+unfolding scratchLength planeLength
+strips-whole f each some =
+    let row = encodedWidth f * planeChannels f in
+    sum-times (stripsPerPlane (f .h) each * planes f) (stripRows (f .h) each) row
+    ∙ ap (λ (n : ℕ). n * row) (plane-rows (f .h) each (planes f) some)
+    ∙ turned-round (f .h) (planes f) (encodedWidth f) (planeChannels f)
+
 strips-fill : (file : List ℕ) (d : Directory) → Accepted (tagsOf file d .fields) → StripsSaid (shapeOf file d) (splitOf file d) → let s = pageStrips file d in sum (s .offsets .count) (λ k. stripRows (s .rows) (s .each) k * s .row) ≡ scratchLength (tagsOf file d .fields)
-unfolding scratchLength planeLength stripsOf stripsBy tagsBy fieldsBy
+unfolding stripsOf stripsBy tagsBy fieldsBy
 strips-fill file d a said =
     let f = tagsOf file d .fields in
-    let t = splitOf file d in
-    let rows = shapeOf file d .height .value in
-    let each = t .rows .value in
-    let m = pick (eqb (t .planar .value) 2) (t .samples .value) 1 in
-    sum-times (t .offsets .count) (stripRows rows each) (encodedWidth f * planeChannels f)
-    ∙ ap (λ (n : ℕ). n * (encodedWidth f * planeChannels f)) (ap (λ (n : ℕ). sum n (stripRows rows each)) (said .all) ∙ plane-rows rows each m (said .some))
-    ∙ turned-round rows m (encodedWidth f) (planeChannels f)
-    ∙ ap (λ (n : ℕ). encodedWidth f * rows * planeChannels f * n) (sym (planes-are file d a))
+    let each = splitOf file d .rows .value in
+    ap (λ (n : ℕ). sum n (λ k. stripRows (f .h) each k * (encodedWidth f * planeChannels f))) (said .all ∙ ap (λ (m : ℕ). stripsPerPlane (f .h) each * m) (sym (planes-are file d a)))
+    ∙ strips-whole f each (said .some)
 
 module _ (file : List ℕ) (page : ℕ) (sound : Sound (pageFaults file page)) where
   page-said : let d = directory file page in StripsSaid (shapeOf file d) (splitOf file d)

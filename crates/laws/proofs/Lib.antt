@@ -4,3 +4,4 @@ pub mod Picks
 pub mod Lists
 pub mod Faults
 pub mod Turns
+pub mod Joined

@@ -1,0 +1,15 @@
+pub mod Holding
+pub mod Places
+pub mod Sizes
+pub mod Inside
+pub mod Writing
+pub mod Rows
+pub mod Stripping
+pub mod Asking
+pub mod Filing
+pub mod Determined
+pub mod Layouts
+pub mod Reading
+pub mod Used
+pub mod Sound
+pub mod Theorems
