@@ -108,7 +108,7 @@ module _ (r s : ℕ) where
     pub hamrisk-file-length-determined : (each old v w : ℕ) → OnLayout layout (λ f. Lent writtenOutcome (Measured (completed f) each) r old v) (RefusedUnserved r old v) → OnLayout layout (λ f. Lent writtenOutcome (Measured (completed f) each) s old w) (RefusedUnserved s old w) → (r ≡ s) × (v ≡ w)
     hamrisk-file-length-determined each old v w = on-once (λ f t u. lent-once (λ a b p q. (file-length-determined (completed f) each a b p q, tt {0})) t u .0)
 
-    pub hamrisk-write-file-determined : (each : ℕ) (planes : List ℕ) (length m n : ℕ) (old x y : List ℕ) → OnLayout layout (λ f. Lent writtenOutcome (λ a. FileWritten (completed f) each planes old a x) r length m) (RefusedUnserved r (length, old) (m, x)) → OnLayout layout (λ f. Lent writtenOutcome (λ a. FileWritten (completed f) each planes old a y) s length n) (RefusedUnserved s (length, old) (n, y)) → (r ≡ s) × ((m, x) ≡ (n, y))
+    pub hamrisk-write-file-determined : (each : ℕ) (planes : List ℕ) (length m n : ℕ) (old x y : List ℕ) → OnLayout layout (λ f. Lent writtenOutcome (λ a. FileWritten (completed f) each planes old a x) r length m) (RefusedUnserved {A = ℕ × List ℕ} r (length, old) (m, x)) → OnLayout layout (λ f. Lent writtenOutcome (λ a. FileWritten (completed f) each planes old a y) s length n) (RefusedUnserved {A = ℕ × List ℕ} s (length, old) (n, y)) → (r ≡ s) × (_≡_ {A = ℕ × List ℕ} (m, x) (n, y))
     hamrisk-write-file-determined each planes length m n old x y =
         on-once (λ f t u. let one = lent-once (λ a b. write-file-determined (completed f) each planes old a b x y) t u in (one .0 .0, rw (one .0 .1, one .1)))
 

@@ -20,7 +20,7 @@ use Rattle.layout.specs.Layout.{completed, checkedOutcome, layoutFaults, record
 use Rattle.pixels.specs.Render.{converted, renderFaults, Rendered}
 use Rattle.pixels.specs.Planes.{written, writeFaults, Written}
 use Rattle.files.specs.declared.Written.the-variants as Written-is
-use Rattle.files.specs.File.{fileLength, fileOf, askedFaults, Measured, FileWritten}
+use Rattle.files.specs.File.{fileLength, fileOf, askedFaults, roomFaults, Measured, FileWritten}
 use Rattle.files.specs.File as Files
 use Rattle.capi.specs.OnLayouts.{flagged, Asked}
 
@@ -39,12 +39,15 @@ module _ (f : Fields) {answer : Checked} (checked : LayoutChecked f answer) wher
   write-refused e picture old =
       let l = completed f in refuses (writeFaults l picture old) tt (table (l .«scratch_len») (written l picture)) old (first-more _ (refused-first e))
 
+  asked-first : {kind : Refusal} → answer ≡ Checked-is.Refused kind → (each : ℕ) → First (askedFaults (completed f) each) (number kind)
+  asked-first e each = first-more _ (refused-first e)
+
   pub measure-refused : {kind : Refusal} → answer ≡ Checked-is.Refused kind → (each : ℕ) → Measured (completed f) each (Written-is.Refused kind)
-  measure-refused e each = refusing (askedFaults (completed f) each) (fileLength f each) (first-more _ (refused-first e))
+  measure-refused e each = refusing (askedFaults (completed f) each) (fileLength f each) (asked-first e each)
 
   pub file-refused : {kind : Refusal} → answer ≡ Checked-is.Refused kind → (each : ℕ) (planes old : List ℕ) → FileWritten (completed f) each planes old (Written-is.Refused kind) old
   file-refused e each planes old =
-      let l = completed f in refuses (Files.writeFaults l each planes old) (fileLength f each) (fileOf f each planes) old (first-more _ (first-more _ (refused-first e)))
+      let l = completed f in refuses (Files.writeFaults l each planes old) (fileLength f each) (fileOf f each planes) old (first-more (roomFaults l each planes old) (asked-first e each))
 
   pub handed-on : {l : RasterLayout} {N : Type 0} (Allowed : RasterLayout → N → Type 0) (x : N) → answer ≡ Checked-is.Done l → Allowed l x → Allowed (completed f) x
   handed-on {l} Allowed x e =

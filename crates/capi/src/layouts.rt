@@ -8,6 +8,8 @@ use layout::Fields;
 use layout::Place;
 use layout::RasterLayout;
 ghost use mathlib.Core.Path.{_≡_};
+ghost use mathlib.Core.List.{List};
+ghost use Prim.Native.Nat.{ℕ};
 ghost use Rattle.answer.specs.Outcome.{doneOutcome};
 ghost use Rattle.layout.specs.Layout.{completed, LayoutChecked, Indexed, placeOutcome};
 ghost use Rattle.pixels.specs.Render.{Rendered};
@@ -175,7 +177,7 @@ pub extern "C" fn hamrisk_write_file(
     out: &mut [u8],
     length: &mut usize,
 ) -> u32
-    ensures { λ r. ⌜ OnLayout (now (layout .entry)) (λ f. Lent writtenOutcome (λ a. FileWritten (completed f) «rows_per_strip» (now (planes .entry)) (now (out .entry)) a (now (out .exit))) r (now (length .entry)) (now (length .exit))) (RefusedUnserved r (now (length .entry), now (out .entry)) (now (length .exit), now (out .exit))) ⌝ }
+    ensures { λ r. ⌜ OnLayout (now (layout .entry)) (λ f. Lent writtenOutcome (λ a. FileWritten (completed f) «rows_per_strip» (now (planes .entry)) (now (out .entry)) a (now (out .exit))) r (now (length .entry)) (now (length .exit))) (RefusedUnserved {A = ℕ × List ℕ} r (now (length .entry), now (out .entry)) (now (length .exit), now (out .exit))) ⌝ }
 {
     match asked(layout) {
         Checked::Refused(kind) => answer::number(kind),

@@ -22,7 +22,7 @@ returns c =
     record {
       served = λ e. record {
         answer = Written-is.Refused (known .kind .given .0 .0);
-        allowed = measure-refused (fieldsOf (now (a .layout))) (called .asked .ensures .served e) (known .kind .given .1) (a .«rows_per_strip»);
+        allowed = measure-refused (fieldsOf (now (a .layout))) (called .asked .ensures .served e) (known .kind .given .1) (a .rows-per-strip);
         number-is = c .number .ensures;
         value-is = refl;
       };
@@ -32,12 +32,12 @@ returns c =
 -- the call on the record
 returns-2 : tie.Need-returns-2
 returns-2 c =
-    let work = c .before in
-    let known = work .before .before .before in
+    let work = c .before .before in
+    let known = work .before .before in
     let called = known .before .before in
     let a = called .before .args in
     record {
-      served = λ e. lent-as (c .length-of .ensures) (handed-on (fieldsOf (now (a .layout))) (called .asked .ensures .served e) (λ (l : RasterLayout) (w : Written). Measured l (a .«rows_per_strip») w) _ (known .l .given .1) (work .file-length .ensures));
+      served = λ e. lent-as (c .length-of .ensures) (handed-on (fieldsOf (now (a .layout))) (called .asked .ensures .served e) (λ (l : RasterLayout) (w : Written). Measured l (a .rows-per-strip) w) (work .file-length .result) (known .l .given .1) (work .file-length .ensures));
       unserved = λ e. flag-never-done (called .asked .ensures) e (known .l .given .1);
     }
 

@@ -19,11 +19,11 @@ returns : tie.Need-returns
 returns c =
     let known = c .before .before in
     let called = known .before .before in
-    let a = called .before .args in
+    let a = called .before .before .before .args in
     record {
       served = λ e. record {
         answer = Written-is.Refused (known .kind .given .0 .0);
-        allowed = file-refused (fieldsOf (now (a .layout))) (called .asked .ensures .served e) (known .kind .given .1) (a .«rows_per_strip») (now (a .planes)) (now (a .out));
+        allowed = file-refused (fieldsOf (now (a .layout))) (called .asked .ensures .served e) (known .kind .given .1) (a .rows-per-strip) (now (a .planes)) (now (a .out));
         number-is = c .number .ensures;
         value-is = refl;
       };
@@ -33,14 +33,14 @@ returns c =
 -- the call on the record
 returns-2 : tie.Need-returns-2
 returns-2 c =
-    let work = c .before in
+    let work = c .before .before .before .before in
     let known = work .before .before .before in
     let called = known .before .before in
-    let a = called .before .args in
+    let a = called .before .before .before .args in
     record {
-      served = λ e. lent-as (c .length-of .ensures) (handed-on (fieldsOf (now (a .layout))) (called .asked .ensures .served e) (λ (l : RasterLayout) (new : List ℕ). FileWritten l (a .«rows_per_strip») (now (a .planes)) (now (a .out)) (work .write-file .result) new) _ (known .l .given .1) (work .write-file .ensures));
+      served = λ e. lent-as (c .length-of .ensures) (handed-on (fieldsOf (now (a .layout))) (called .asked .ensures .served e) (λ (l : RasterLayout) (new : List ℕ). FileWritten l (a .rows-per-strip) (now (a .planes)) (now (a .out)) (work .write-file .result) new) _ (known .l .given .1) (work .write-file .ensures));
       unserved = λ e. flag-never-done (called .asked .ensures) e (known .l .given .1);
     }
 
 pub hamrisk-write-file-spec : {M : Type 1} → statement M
-hamrisk-write-file-spec = tie.close (tie.spec (λ c κs. search needs) (λ c. search needs) (λ c κs. search needs) (λ c. search needs) (λ c κs. search needs) (λ c κs. search needs) returns returns-2)
+hamrisk-write-file-spec = tie.close (tie.spec (λ c κs. search needs) (λ c. search needs) (λ c κs. search needs) (λ c. search needs) (λ c κs. search needs) (λ c κs. search needs) returns (λ c. search needs) returns-2)
