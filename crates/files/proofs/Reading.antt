@@ -12,7 +12,7 @@ use lib.Dec.{eqb, ltb, leb}
 use Rattle.answer.specs.Outcome.{pick}
 use Rattle.answer.proofs.Filling.{table-at}
 use Rattle.laws.specs.Turns.{every}
-use Rattle.laws.proofs.Turns.{every-one}
+use Rattle.laws.proofs.Turns.{every-one, every-same}
 use Rattle.words.specs.Digits.{digit}
 use Rattle.words.specs.Word.{wordAt, modulus}
 use Rattle.layout.specs.declared.Fields.{Fields}
@@ -27,11 +27,7 @@ use Rattle.files.proofs.Holding.{Holds, holds-at, holds-first, holds-se
 use Rattle.files.proofs.Places.{before, behind, length-front, holds-header, holds-count, holds-entry}
 use Rattle.files.proofs.Sizes.{entries-few, front-small}
 
--- tests and searches that agree turn by turn
-every-same : (n : ℕ) (t u : ℕ → Bool) → ((k : ℕ) → k < n → t k ≡ u k) → every n t ≡ every n u
-every-same zero t u e = refl
-every-same (suc n) t u e = rw (every-same n t u (λ k h. e k (omega arith)), e n (omega arith))
-
+-- searches among tags that agree
 seek-same : (t u : ℕ → ℕ) (tag i m : ℕ) → ((j : ℕ) → j < i + m → t j ≡ u j) → seek t tag i m ≡ seek u tag i m
 seek-same t u tag i zero e = refl
 seek-same t u tag i (suc m) e = rw (e i (omega arith), seek-same t u tag (i + 1) m (λ j h. e j (omega arith)))

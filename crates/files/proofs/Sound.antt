@@ -1,5 +1,5 @@
 -- A written file has no fault that the reader looks for, and its tags say its layout. Assumes nothing.
-use Prim.Native.Nat.{ℕ, zero, suc, _≤_, _<_}
+use Prim.Native.Nat.{ℕ, _≤_, _<_}
 use mathlib.Core.Path.{_≡_, refl, ap, _∙_}
 use mathlib.Core.Bool.{Bool, true, false, not, _&&_, _||_}
 use mathlib.Core.List.{List}
@@ -11,6 +11,7 @@ use Rattle.answer.specs.Outcome.{pick, Fault, Sound, none, next}
 use Rattle.answer.proofs.Promised.{sound-more}
 use Rattle.laws.specs.Turns.{every, faultsBelow}
 use Rattle.laws.proofs.Says.{held}
+use Rattle.laws.proofs.Turns.{every-all}
 use Rattle.layout.specs.declared.Fields.{Fields}
 use Rattle.layout.specs.Layout.{scratchLength, planes}
 use Rattle.layout.proofs.Accepted.{Accepted}
@@ -23,15 +24,6 @@ use Rattle.files.proofs.Sizes.{fields-accepted, strips-some}
 use Rattle.files.proofs.Layouts.{Channels, one, two, three, four, Kind, bits-mean, coloured}
 use Rattle.files.proofs.Reading.{written}
 use Rattle.files.proofs.Used.{sure-sound, kind, width, height, bits, compression, colours, offsets, samples, rows, counts, apart, predictor, extra}
-
--- a test that holds at each turn holds at all; turns that are each without a fault
-every-all : (n : ℕ) (t : ℕ → Bool) → ((k : ℕ) → k < n → t k ≡ true) → every n t ≡ true
-every-all zero t e = refl
-every-all (suc n) t e = rw (every-all n t (λ k h. e k (omega arith)), e n (omega arith))
-
-pub turns-all : (n : ℕ) (f : ℕ → List Fault) → ((k : ℕ) → k < n → Sound (f k)) → Sound (faultsBelow n f)
-turns-all zero f s = none
-turns-all (suc n) f s = sound-more (turns-all n f (λ k h. s k (omega arith))) (s n (omega arith))
 
 module _ (f : Fields) (each : ℕ) (raw : List ℕ) (fit : Fit f each) (all : scratchLength f ≤ length raw) where
   abbrev file : List ℕ

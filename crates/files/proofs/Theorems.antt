@@ -1,6 +1,6 @@
 -- What an accepted call of `write_file` wrote is read back: the reader answers its page, each strip is that part of the planes, and all strips end
 -- to end are the planes. Assumes nothing.
-use Prim.Native.Nat.{ℕ, zero, suc, _+_, _*_, _≤_, _<_}
+use Prim.Native.Nat.{ℕ, _+_, _*_, _≤_, _<_}
 use mathlib.Core.Path.{_≡_, refl, sym, ap, _∙_, subst}
 use mathlib.Core.Bool.{Bool, true, false, not, _||_}
 use mathlib.Core.List.{List}
@@ -13,7 +13,8 @@ use Rattle.answer.specs.Outcome.{Promise, done, unless, Sound, none, next}
 use Rattle.answer.proofs.Promised.{writes, done-sound, done-value, sound-done, sound-more, sound-front, sound-back, sound-here}
 use Rattle.laws.specs.Turns.{endToEnd}
 use Rattle.laws.proofs.Says.{held}
-use Rattle.laws.proofs.Joined.{parts-joined}
+use Rattle.laws.proofs.Turns.{turns-all}
+use Rattle.laws.proofs.Joined.{joined-same, parts-joined}
 use Rattle.layout.specs.declared.Fields.{Fields}
 use Rattle.layout.specs.declared.RasterLayout.{RasterLayout}
 use Rattle.layout.specs.Layout.{layoutFaults, completed, encodedWidth, planeChannels, scratchLength, outputLength, eightRule, alphaRule, paletteRule, slotsRule}
@@ -38,7 +39,7 @@ use Rattle.files.proofs.Places.{length-front}
 use Rattle.files.proofs.Sizes.{strips-all, strip-inside, strip-small, entries-few}
 use Rattle.files.proofs.Reading.{written, is-little, version, mark, directory-is, directory-room, tags-ascend, length-file}
 use Rattle.files.proofs.Used.{kind, offsets, counts}
-use Rattle.files.proofs.Sound.{turns-all, said-sound, tags-back}
+use Rattle.files.proofs.Sound.{said-sound, tags-back}
 
 -- a part of the front of a list
 part-front : (at n all : ℕ) (l : List ℕ) → at + n ≤ all → take n (drop at (take all l)) ≡ take n (drop at l)
@@ -130,10 +131,6 @@ pub record ReadBack (f : Fields) (each : ℕ) (planes file : List ℕ) : Type 0 
   pub page : (r : Found) → DirectoryRead file 0 r → r ≡ Found-is.Found (pageBack f each)
   pub strip : (k : ℕ) (s : List ℕ) → k < strips f each → StripCut file 0 k s → s ≡ stripBack f each planes k
   pub whole : (s : ℕ → List ℕ) → ((k : ℕ) → k < strips f each → StripCut file 0 k (s k)) → endToEnd (strips f each) s ≡ take (scratchLength f) planes
-
-joined-same : (n : ℕ) (s t : ℕ → List ℕ) → ((k : ℕ) → k < n → s k ≡ t k) → endToEnd n s ≡ endToEnd n t
-joined-same zero s t e = refl
-joined-same (suc n) s t e = rw (joined-same n s t (λ k h. e k (omega arith)), e n (omega arith))
 
 file-back : (f : Fields) (each : ℕ) (planes : List ℕ) → Fit f each → scratchLength f ≤ length planes → ReadBack f each planes (fileOf f each planes)
 file-back f each planes fit all =

@@ -1,4 +1,5 @@
-// The values that stand outside their entries: bits of samples, places and lengths of strips, resolutions.
+// The values that stand outside their entries: bits of samples, places and lengths of strips, resolutions. The layout `f` of a plan is handed on for the
+// contracts, which speak of it.
 use crate::numbers::put_long;
 use crate::numbers::put_short;
 use crate::plan::Plan;

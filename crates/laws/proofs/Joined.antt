@@ -13,6 +13,11 @@ pub length-joined : (n : ℕ) (f : ℕ → List ℕ) → length (endToEnd n f) �
 length-joined zero f = refl
 length-joined (suc n) f = length-append (endToEnd n f) (f n) ∙ ap (λ (m : ℕ). m + length (f n)) (length-joined n f)
 
+-- the same lists
+pub joined-same : (n : ℕ) (f g : ℕ → List ℕ) → ((k : ℕ) → k < n → f k ≡ g k) → endToEnd n f ≡ endToEnd n g
+joined-same zero f g e = refl
+joined-same (suc n) f g e = rw (joined-same n f g (λ k h. e k (omega arith)), e n (omega arith))
+
 -- what comes before, and a list itself, are no more than all
 pub sum-within : (f : ℕ → ℕ) (k n : ℕ) → k < n → sum k f + f k ≤ sum n f
 sum-within f k zero h = absurd (omega arith)

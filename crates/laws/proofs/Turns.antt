@@ -7,7 +7,7 @@ use native.Mathlib.Decide.{decLt}
 use native.Mathlib.Nat.{add-mul, zero-mul, mul-zero, mul-suc, add-assoc, add-zero, add-suc, mod-eq-of-lt, mul-add-mod-self-left}
 use native.Mathlib.Numerals.{add-one}
 use native.Mathlib.Omega.{arith}
-use Rattle.answer.specs.Outcome.{Fault, Sound, First}
+use Rattle.answer.specs.Outcome.{Fault, Sound, none, First}
 use Rattle.answer.proofs.Promised.{first-more, sound-then, sound-more, sound-front, sound-back}
 use Rattle.laws.specs.Turns.{every, faultsBelow, sum}
 use Rattle.laws.proofs.Says.{clash, one-fails}
@@ -24,6 +24,15 @@ every-one n t e k h = by (t k) refl
     by true is = is
     by false is = clash e (one-fails (λ m. every m t) t (λ m. refl) n k h is)
 
+-- one that holds at each turn holds at every one; tests that agree turn by turn
+pub every-all : (n : ℕ) (t : ℕ → Bool) → ((k : ℕ) → k < n → t k ≡ true) → every n t ≡ true
+every-all zero t e = refl
+every-all (suc n) t e = rw (every-all n t (λ k h. e k (omega arith)), e n (omega arith))
+
+pub every-same : (n : ℕ) (t u : ℕ → Bool) → ((k : ℕ) → k < n → t k ≡ u k) → every n t ≡ every n u
+every-same zero t u e = refl
+every-same (suc n) t u e = rw (every-same n t u (λ k h. e k (omega arith)), e n (omega arith))
+
 -- the first turn that has a fault decides
 pub turn-first : (n : ℕ) (f : ℕ → List Fault) (k : ℕ) {r : ℕ} → k < n → Sound (faultsBelow k f) → First (f k) r → First (faultsBelow n f) r
 turn-first zero f k h s t = absurd (omega arith)
@@ -36,6 +45,11 @@ turn-first (suc n) f k {r} h s t = by (decLt k n) (λ l. turn-first n f k l s t)
 -- a turn more without a fault
 pub turns-more : (n : ℕ) (f : ℕ → List Fault) → Sound (faultsBelow n f) → Sound (f n) → Sound (faultsBelow (n + 1) f)
 turns-more n f s t = rw (add-one n) (sound-more s t)
+
+-- turns that are each without a fault
+pub turns-all : (n : ℕ) (f : ℕ → List Fault) → ((k : ℕ) → k < n → Sound (f k)) → Sound (faultsBelow n f)
+turns-all zero f s = none
+turns-all (suc n) f s = sound-more (turns-all n f (λ k h. s k (omega arith))) (s n (omega arith))
 
 -- a turn of turns without a fault
 pub turn-sound : (n : ℕ) (f : ℕ → List Fault) (k : ℕ) → k < n → Sound (faultsBelow n f) → Sound (f k)
