@@ -94,17 +94,18 @@ photometric f = pick (leb 3 (f .ch)) 2 (pick (f .white) 0 1)
 unfoldable pub planar : Fields → ℕ
 planar f = pick (f .separate) 2 1
 
+-- the last four bytes of 258's entry: one SHORT or two, or where all stand
 unfoldable pub bitsLast : Fields → ℕ
 bitsLast f = pick (inEntry 2 (f .ch)) (value 65536 (f .ch) (λ j. bitsOf f)) (bitsPlace f)
 
--- 273's and 279's: the one strip's place or length, or where those of all stand
+-- those of 273's and 279's: the one strip's place or length, or where those of all stand
 unfoldable pub offsetsLast : Fields → ℕ → ℕ
 offsetsLast f each = pick (inEntry 4 (strips f each)) (stripPlace f each 0) (offsetsPlace f)
 
 unfoldable pub countsLast : Fields → ℕ → ℕ
 countsLast f each = pick (inEntry 4 (strips f each)) (stripBytes f each 0) (countsPlace f each)
 
--- the entries, ascending; 338 with alpha alone
+-- the entries, ascending; without alpha the last, 338, is not written (`entryCount`)
 abbrev pub entries : Fields → ℕ → List Entry
 entries f each =
     oneShort 256 (f .w)
@@ -152,7 +153,7 @@ front f each = header ++ (directory f each ++ values f each)
 abbrev pub fileOf : Fields → ℕ → List ℕ → List ℕ
 fileOf f each planes = front f each ++ take (scratchLength f) planes
 
--- rule 15.4
+-- the layouts of which files are written (rule 15.4)
 unfoldable pub served : Fields → Bool
 served f =
     f .le
