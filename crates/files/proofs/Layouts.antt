@@ -61,6 +61,13 @@ module _ (f : Fields) (a : Accepted f) where
       samples-of : f .palette ≡ false → (f .bytes ≡ 1) ⊎ (f .bytes ≡ 2) → Samples f
       samples-of p b = ⊎-elim (λ s. wide s b) (λ s. bit (s .0 .0 .0) (s .0 .1) (s .0 .0 .1)) (a .shared p)
 
+-- alpha is none, or of kind 2
+pub alphas : {f : Fields} → Channels f → (f .alpha ≡ 0) ⊎ (f .alpha ≡ 2)
+alphas (one c z) = inl z
+alphas (three c z w) = inl z
+alphas (two c z) = inr z
+alphas (four c z w) = inr z
+
 -- what the reader makes of the bits
 pub bits-mean : (f : Fields) → Samples f → ((sampleBytes (bitsOf f) ≡ f .bytes) × (samplesInByte (bitsOf f) ≡ f .slots)) × ((servedDepth (bitsOf f) ≡ true) × (bitsOf f ≤ 16))
 unfolding bitsOf

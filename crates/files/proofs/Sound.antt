@@ -3,6 +3,7 @@ use Prim.Native.Nat.{ℕ, _≤_, _<_}
 use mathlib.Core.Path.{_≡_, refl, ap, _∙_}
 use mathlib.Core.Bool.{Bool, true, false, not, _&&_, _||_}
 use mathlib.Core.List.{List}
+use mathlib.Core.Logic.{⊎-elim}
 use native.Mathlib.Omega.{arith}
 use borrow.Author.Tests.{le-ltb, eq-eqb, ne-eqb}
 use lib.ListN.{length}
@@ -21,7 +22,7 @@ use Rattle.tags.specs.Tags.{shapeOf, splitOf, extrasOf, depthOf, bitsFaults, sh
 use Rattle.files.specs.File.{strips, bitsOf, photometric, planar, fileOf, withoutMap}
 use Rattle.files.specs.Parts.{Fit}
 use Rattle.files.proofs.Sizes.{fields-accepted, strips-some}
-use Rattle.files.proofs.Layouts.{Channels, one, two, three, four, Kind, bits-mean, coloured}
+use Rattle.files.proofs.Layouts.{Kind, alphas, bits-mean, coloured}
 use Rattle.files.proofs.Reading.{written}
 use Rattle.files.proofs.Used.{sure-sound, kind, width, height, bits, compression, colours, offsets, samples, rows, counts, apart, predictor, extra}
 
@@ -117,13 +118,8 @@ module _ (f : Fields) (each : ℕ) (raw : List ℕ) (fit : Fit f each) (all : sc
   extra-sound =
       let x = extra f each raw fit all in
       let unequal : not (eqb (fieldOf file d 277 1 .value) (samplesOf (fieldOf file d 262 0 .value) (fieldOf file d 338 0 .there))) ≡ false = rw (samples f each raw fit all .value, colours f each raw fit all .value, x .there, coloured f (k .channels) .has) (held (eq-eqb (f .ch) (f .ch) refl)) in
-      sound-more (x .sound) (next (rw (x .there, x .value) (two-alone (k .channels))) (next unequal none))
-    where
-      two-alone : Channels f → (not (eqb (f .alpha) 0) && not (eqb (f .alpha) 1 || eqb (f .alpha) 2)) ≡ false
-      two-alone (one c z) = ap (λ (n : ℕ). not (eqb n 0) && not (eqb n 1 || eqb n 2)) z
-      two-alone (three c z w) = ap (λ (n : ℕ). not (eqb n 0) && not (eqb n 1 || eqb n 2)) z
-      two-alone (two c z) = ap (λ (n : ℕ). not (eqb n 0) && not (eqb n 1 || eqb n 2)) z
-      two-alone (four c z w) = ap (λ (n : ℕ). not (eqb n 0) && not (eqb n 1 || eqb n 2)) z
+      let known : (not (eqb (f .alpha) 0) && not (eqb (f .alpha) 1 || eqb (f .alpha) 2)) ≡ false = ⊎-elim (λ z. rw z) (λ z. rw z) (alphas (k .channels)) in
+      sound-more (x .sound) (next (rw (x .there, x .value) known) (next unequal none))
 
   not-palette : eqb (fieldOf file d 262 0 .value) 3 ≡ false
   not-palette = rw (colours f each raw fit all .value) (ne-eqb (photometric f) 3 (λ z. omega (arith, coloured f (k .channels) .few)))

@@ -3,6 +3,7 @@ use Prim.Native.Nat.{ℕ, zero, suc, _+_, _-_, _*_, _≤_, _<_}
 use mathlib.Core.Path.{_≡_, refl, sym, ap, _∙_}
 use mathlib.Core.Bool.{Bool, true, false, not, _&&_, _||_}
 use mathlib.Core.List.{List}
+use mathlib.Core.Logic.{⊎-elim}
 use native.Mathlib.Omega.{arith}
 use borrow.Author.Tests.{le-ltb, leb-true}
 use lib.ListN.{length, getD}
@@ -20,7 +21,7 @@ use Rattle.files.specs.Parts.{Fit}
 use Rattle.files.proofs.Holding.{Holds, holds-in, holds-word, length-stored}
 use Rattle.files.proofs.Places.{holds-bit, holds-place, holds-length}
 use Rattle.files.proofs.Sizes.{fields-accepted, entries-few, front-small, strips-few, strips-some, strip-small, file-small}
-use Rattle.files.proofs.Layouts.{Channels, one, two, three, four, Samples, bit, byte, pair, Kind, kind-of, bits-mean, coloured}
+use Rattle.files.proofs.Layouts.{Channels, one, two, three, four, Samples, bit, byte, pair, Kind, kind-of, alphas, bits-mean, coloured}
 use Rattle.files.proofs.Reading.{Said, written, length-file, in-file, before-planes, found, field-there, field-missing, entry-is, low-half}
 
 -- a field that is there, of a type and a count, with its values in the file
@@ -148,9 +149,6 @@ module _ (f : Fields) (each : ℕ) (planes : List ℕ) (fit : Fit f each) (all :
   unfolding outside
   strip-numbers i tag place v h is small before held = by (inEntry 4 (strips f each)) refl
     where
-      g : Field
-      g = fieldAt file d i
-
       by : (b : Bool) → inEntry 4 (strips f each) ≡ b → Sure (length file) (fieldAt file d i) LONG (strips f each) × ((k : ℕ) → k < strips f each → valueOf file true (fieldAt file d i) k ≡ v k)
       by true in-it =
           let single : 4 * strips f each ≤ 4 = leb-true _ _ in-it in
@@ -284,10 +282,4 @@ module _ (f : Fields) (each : ℕ) (planes : List ℕ) (fit : Fit f each) (all :
       missing-sound = next refl (next refl (next refl (next (le-ltb (length file) 2 (omega (arith, inside {i = 0} (omega (arith, entries-few f))))) none)))
 
   pub extra : Extra (fieldOf file d 338 0)
-  extra = by (kind .channels)
-    where
-      by : Channels f → Extra (fieldOf file d 338 0)
-      by (one c z) = without-alpha z
-      by (three c z w) = without-alpha z
-      by (two c z) = with-alpha z
-      by (four c z w) = with-alpha z
+  extra = ⊎-elim without-alpha with-alpha (alphas (kind .channels))
