@@ -1,5 +1,5 @@
 -- A call whose answer is known, a refusal or a value, keeps its promise by that answer's number and what it lends back.
--- Four calls that match on an answer cite it in each arm. Assumes nothing.
+-- Calls that match on an answer cite it in each arm. Assumes nothing.
 use Prim.Native.Nat.{ℕ}
 use mathlib.Core.Path.{_≡_, sym, subst}
 use Rattle.answer.specs.Outcome.{Outcome}
