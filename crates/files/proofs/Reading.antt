@@ -1,7 +1,7 @@
 -- What the reader finds in a written file: its header, its directory, and the fields of the entries. Assumes nothing.
 use Prim.Native.Nat.{ℕ, zero, suc, _+_, _-_, _*_, _≤_, _<_}
 use mathlib.Core.Path.{_≡_, refl, sym, ap, _∙_}
-use mathlib.Core.Bool.{Bool, true}
+use mathlib.Core.Bool.{true}
 use mathlib.Core.List.{List, _++_}
 use mathlib.Core.Logic.{_⊎_, inl, inr, ⊎-elim}
 use native.Mathlib.Decide.{decLt}
@@ -11,7 +11,6 @@ use lib.ListN.{length, take, length-append, length-take}
 use lib.Dec.{eqb, ltb, leb}
 use Rattle.answer.specs.Outcome.{pick}
 use Rattle.answer.proofs.Filling.{table-at}
-use Rattle.laws.specs.Turns.{every}
 use Rattle.laws.proofs.Turns.{every-one, every-same}
 use Rattle.words.specs.Digits.{digit}
 use Rattle.words.specs.Word.{wordAt, modulus}

@@ -1,5 +1,5 @@
 -- A written file has no fault that the reader looks for, and its tags say its layout. Assumes nothing.
-use Prim.Native.Nat.{ℕ, _≤_, _<_}
+use Prim.Native.Nat.{ℕ, _≤_}
 use mathlib.Core.Path.{_≡_, refl, ap, _∙_}
 use mathlib.Core.Bool.{Bool, true, false, not, _&&_, _||_}
 use mathlib.Core.List.{List}
@@ -8,9 +8,9 @@ use native.Mathlib.Omega.{arith}
 use borrow.Author.Tests.{le-ltb, eq-eqb, ne-eqb}
 use lib.ListN.{length}
 use lib.Dec.{eqb, ltb}
-use Rattle.answer.specs.Outcome.{pick, Fault, Sound, none, next}
+use Rattle.answer.specs.Outcome.{pick, Sound, none, next}
 use Rattle.answer.proofs.Promised.{sound-more}
-use Rattle.laws.specs.Turns.{every, faultsBelow}
+use Rattle.laws.specs.Turns.{every}
 use Rattle.laws.proofs.Says.{held}
 use Rattle.laws.proofs.Turns.{every-all}
 use Rattle.layout.specs.declared.Fields.{Fields}

@@ -1,6 +1,6 @@
 -- `length_of` meets its contract: the answer is the one that was handed in. Assumes nothing.
 use borrow.Author.Needs.{needs}
-use mathlib.Core.Path.{refl, sym}
+use mathlib.Core.Path.{refl}
 use native.Mathlib.Omega.{arith}
 use Rattle.capi.proofs.Telling.{telling}
 use Rattle.capi.proofs.layouts.length_of.Statement.{statement}
