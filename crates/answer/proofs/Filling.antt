@@ -139,6 +139,17 @@ part-filled f a e old out new h s is =
     rw (front, past, is)
     (sym (append-assoc (table a f) (table (e - a) (λ k. f (a + k))) (drop e old)) ∙ ap (λ (l : List ℕ). l ++ drop e old) (table-join a (e - a) f ∙ ap (λ (k : ℕ). table k f) whole-way))
 
+-- a buffer of which the part up to a was filled, and then the part from a on
+abbrev pub halfway : ℕ → List ℕ → List ℕ → List ℕ
+halfway a old front = front ++ drop (a - 0) (drop 0 old)
+
+pub front-filled : (f : ℕ → ℕ) (a : ℕ) (old front : List ℕ) → front ≡ table (a - 0) (λ k. f (0 + k)) → halfway a old front ≡ filled a f old
+front-filled f a old front = part-filled f 0 a old old front (omega arith) refl
+
+pub both-filled : (f : ℕ → ℕ) (a : ℕ) (old front back : List ℕ) → a ≤ length old → front ≡ table (a - 0) (λ k. f (0 + k)) → back ≡ table (length old - a) (λ k. f (a + k)) → take a (halfway a old front) ++ (back ++ drop (length old - a) (drop a (halfway a old front))) ≡ table (length old) f
+both-filled f a old front back room first second =
+    part-filled f a (length old) old (halfway a old front) back room (front-filled f a old front first) second ∙ filled-all (length old) f old (omega arith)
+
 -- a buffer filled to the table's end is what a promise leaves
 pub whole : (n : ℕ) (f : ℕ → ℕ) (old : List ℕ) → filled n f old ≡ table n f ++ drop (length (table n f)) old
 whole n f old = ap (λ (k : ℕ). table n f ++ drop k old) (sym (length-table n f))

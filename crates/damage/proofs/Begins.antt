@@ -9,8 +9,8 @@ use native.Mathlib.Decide.{decLt}
 use native.Mathlib.Omega.{arith}
 use borrow.Author.Tests.{le-ltb}
 use lib.ListN.{length, getD, take, drop}
-use Rattle.answer.specs.Table.{table, filled}
-use Rattle.answer.proofs.Filling.{part, length-part, part-at, part-filled, table-same, length-filled, filled-all}
+use Rattle.answer.specs.Table.{table}
+use Rattle.answer.proofs.Filling.{part, length-part, part-at, halfway, front-filled, both-filled, table-same, length-filled}
 use Rattle.words.proofs.Served.{served-some}
 use Rattle.laws.proofs.Groups.{group-room}
 use Rattle.samples.specs.Sample.{Strip, strip, alone}
@@ -31,17 +31,13 @@ sound-on damage at end h room before block k l = by (decLt k at)
         ap (λ (i : ℕ). getD damage i 0) (sym there) ∙ sym (part-at at end damage (k - at) (omega arith)) ∙ block (k - at) (omega (arith, length-part at end damage h room))
 
 -- 0 written up to a place, then 1 up to the end
-abbrev halfway : ℕ → List ℕ → List ℕ → List ℕ
-halfway from old front = front ++ drop (from - 0) (drop 0 old)
-
 pub filled-since : (from : ℕ) (old front back : List ℕ) → from ≤ length old → front ≡ table (length (part 0 from old)) (λ k. 0) → back ≡ table (length (part from (length old) (halfway from old front))) (λ k. 1) → take from (halfway from old front) ++ (back ++ drop (length old - from) (drop from (halfway from old front))) ≡ table (length old) (λ n. markByte (since from n))
 filled-since from old front back room zeros ones =
     let f : ℕ → ℕ = λ n. markByte (since from n) in
     let before = table-all _ (from - 0) 0 (λ k. f (0 + k)) front zeros (length-part 0 from old (omega arith) room) (λ k h. ap markByte (since-before from (0 + k) (omega arith))) in
-    let half : halfway from old front ≡ filled from f old = part-filled f 0 from old old front (omega arith) refl before in
-    let long : length (halfway from old front) ≡ length old = ap length half ∙ length-filled from f old room in
+    let long : length (halfway from old front) ≡ length old = ap length (front-filled f from old front before) ∙ length-filled from f old room in
     let after = table-all _ (length old - from) 1 (λ k. f (from + k)) back ones (length-part from (length old) (halfway from old front) room (omega arith)) (λ k h. ap markByte (since-later from (from + k) (omega arith))) in
-    rw (← (filled-all (length old) f old (omega arith))) (part-filled f from (length old) old (halfway from old front) back room half after)
+    both-filled f from old front back room before after
 
 -- the samples from `from` on that were found damaged, `left` of the channels not looked at yet; `at` is where the next begins
 pub record Struck (damage : List ℕ) (channels width from at left : ℕ) : Type 0 where

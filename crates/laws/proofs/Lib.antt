@@ -4,4 +4,5 @@ pub mod Picks
 pub mod Lists
 pub mod Faults
 pub mod Turns
+pub mod Tabled
 pub mod Joined

@@ -1,21 +1,15 @@
--- The alpha rule by shares: a colour times its alpha's share, held at 255 and to nearest, is the rule's colour; and a table of shares is right if
--- one computed test of it is. Assumes nothing.
+-- The alpha rule by shares: a colour times its alpha's share, held at 255 and to nearest, is the rule's colour. Assumes nothing.
 use Prim.Native.Nat.{ℕ, _+_, _-_, _*_, _/_, _≤_, _<_, min}
 use mathlib.Core.Path.{_≡_, sym, ap, _∙_}
-use mathlib.Core.Bool.{true}
-use mathlib.Core.List.{List}
 use mathlib.Core.Logic.{_⊎_, ⊎-elim}
 use native.Mathlib.Decide.{decLt}
 use native.Mathlib.Nat.{mul-zero, mul-add, mul-div-le, lt-mul-div-succ, min-eq-left, min-eq-right}
 use native.Mathlib.Omega.{arith}
-use borrow.Author.Tests.{eq-eqb, ne-eqb, eqb-true}
-use lib.ListN.{getD}
+use borrow.Author.Tests.{eq-eqb, ne-eqb}
 use lib.Dec.{eqb}
 use Rattle.answer.specs.Outcome.{pick}
-use Rattle.laws.specs.Turns.{every}
-use Rattle.laws.proofs.Turns.{every-one}
 use Rattle.pixels.specs.Render.{nearest, straightened}
-use Rattle.pixels.specs.Finish.{shareOf, Shares}
+use Rattle.pixels.specs.Finish.{shareOf}
 use Rattle.pixels.proofs.Nearest.{share-nearest}
 
 -- 255 × u / a in parts of 2^17, held at 255
@@ -58,7 +52,3 @@ straight-held u a share held byte alpha e is = held-nearest (u * share) held is 
         let zero-alpha : a ≡ 0 = omega arith in
         let zero-share : share ≡ 0 = e ∙ share-none a zero-alpha in
         rw (zero-alpha, zero-share, mul-zero u)
-
--- a table is right at each alpha if one test of all of them is
-pub shares-right : {shares : List ℕ} → every 256 (λ a. eqb (getD shares a 0) (shareOf a)) ≡ true → Shares shares
-shares-right {shares} e = record { right = λ a h. eqb-true _ _ (every-one 256 (λ a. eqb (getD shares a 0) (shareOf a)) e a h) }

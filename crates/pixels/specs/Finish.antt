@@ -37,10 +37,6 @@ StraightBy share u r = (a : ℕ) → a < 256 → share ≡ shareOf a → r ≡ s
 abbrev pub ColourBy : ℕ → Bool → Bool → ℕ → ℕ → Type 0
 ColourBy share multiplied white v r = (a : ℕ) → a < 256 → (multiplied ≡ true → share ≡ shareOf a) → r ≡ straightColour multiplied white v a
 
--- a table that has the share of every alpha
-pub record Shares (shares : List ℕ) : Type 0 where
-  pub right : (a : ℕ) → a < 256 → getD shares a 0 ≡ shareOf a
-
 -- what the private loops need and do
 pub record PixelGiven (old : List ℕ) (at last : ℕ) (multiplied : Bool) (share : ℕ) : Type 0 where
   pub room : at + last < length old

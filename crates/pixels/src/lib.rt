@@ -6,8 +6,9 @@ use answer::Done;
 use answer::Refusal;
 ghost use mathlib.Core.Path.{_≡_};
 ghost use mathlib.Core.Bool.{true};
+ghost use Rattle.laws.specs.Tabled.{Tabled};
 ghost use Rattle.pixels.specs.Render.{flipped, highByte};
-ghost use Rattle.pixels.specs.Finish.{Inverted, shareOf, StraightBy, ColourBy, Shares, PixelGiven, WholePixels, PixelStraightened, PixelsStraightened, Straightened};
+ghost use Rattle.pixels.specs.Finish.{Inverted, shareOf, StraightBy, ColourBy, PixelGiven, WholePixels, PixelStraightened, PixelsStraightened, Straightened};
 
 // A byte, inverted where white is 0.
 pub fn flip(white: bool, v: u8) -> u8
@@ -102,7 +103,7 @@ fn straighten_pixels(s: &mut [u8], channels: usize, multiplied: bool, white: boo
 
 // Every pixel that was multiplied, by a table of the shares.
 fn divide_pixels(s: &mut [u8], channels: usize, white: bool, shares: &[u32; 256])
-    requires { ⌜ WholePixels (now s) channels × Shares (now shares) ⌝ }
+    requires { ⌜ WholePixels (now s) channels × Tabled 256 shareOf (now shares) ⌝ }
     ensures { λ r. ⌜ PixelsStraightened (now (s .entry)) channels true white (now (s .exit)) ⌝ }
 {
     let last = channels - 1;
