@@ -1,2 +1,3 @@
+pub mod Reversing
 pub mod Twice
 pub mod Determined

@@ -1,9 +1,13 @@
 // Bytes moved and never read as numbers: a copy, and the bits of every byte reversed.
+mod reversed;
+
+use crate::reversed::REVERSED;
 use answer::Done;
 use answer::Refusal;
 ghost use mathlib.Core.Path.{_≡_};
 ghost use Prim.Native.Nat.{_≤_};
 ghost use lib.ListN.{length};
+ghost use Rattle.laws.specs.Tabled.{Tabled};
 ghost use Rattle.transport.specs.Moved.{Committed, CopiedInto, reversed, Reversed};
 
 fn copy(source: &[u8], out: &mut [u8])
@@ -41,8 +45,8 @@ fn reversed_byte(b: u8) -> u8
         + 128 * (b % 2)
 }
 
-// Every byte with its bits in the other order, in place.
-pub fn reverse_bits(s: &mut [u8])
+// Worked out: a loop of which the compiler makes vectors.
+fn reverse_by_bits(s: &mut [u8])
     ensures { λ r. ⌜ Reversed (now (s .entry)) (now (s .exit)) ⌝ }
 {
     let mut i: usize = 0;
@@ -50,4 +54,38 @@ pub fn reverse_bits(s: &mut [u8])
         s[i] = reversed_byte(s[i]);
         i += 1;
     }
+}
+
+// Looked up in a table.
+fn reverse_by_table(s: &mut [u8], table: &[u8; 256])
+    requires { ⌜ Tabled 256 reversed (now table) ⌝ }
+    ensures { λ r. ⌜ Reversed (now (s .entry)) (now (s .exit)) ⌝ }
+{
+    let mut i: usize = 0;
+    while i < s.len() {
+        s[i] = table[s[i] as usize];
+        i += 1;
+    }
+}
+
+// Fewer bytes than a block. The table is stored anew wherever it is named: five bytes and fewer are worked out sooner.
+fn reverse_rest(s: &mut [u8])
+    ensures { λ r. ⌜ Reversed (now (s .entry)) (now (s .exit)) ⌝ }
+{
+    if s.len() < 6 {
+        reverse_by_bits(s);
+    } else {
+        let table = REVERSED;
+        reverse_by_table(s, &table);
+    }
+}
+
+// Every byte with its bits in the other order, in place: whole blocks of 8 bytes, and the rest.
+pub fn reverse_bits(s: &mut [u8])
+    ensures { λ r. ⌜ Reversed (now (s .entry)) (now (s .exit)) ⌝ }
+{
+    let all = s.len();
+    let whole = all - all % 8;
+    reverse_by_bits(&mut s[0..whole]);
+    reverse_rest(&mut s[whole..all]);
 }
