@@ -1,5 +1,6 @@
 //! What the speed table compares with: each call as one would write it by hand in Rust, with no checks of its own.
 use hamrisk::{ByteOrder, Coding, Layout, Strip};
+use std::hint::black_box;
 
 /// A word of W bytes: read, written, added and subtracted with wrapping.
 pub trait Word: Copy + Default {
@@ -180,6 +181,26 @@ fn own<const W: usize>(damage: &[u8], marks: &mut [u8]) {
 pub fn reverse_bits(s: &mut [u8]) {
     for b in s {
         *b = b.reverse_bits();
+    }
+}
+
+const REVERSED: [u8; 256] = {
+    let mut table = [0; 256];
+    let mut b = 0;
+    while b < 256 {
+        table[b] = (b as u8).reverse_bits();
+        b += 1;
+    }
+    table
+};
+
+/// By a table alone, stored at each call as the toolchain stores one.
+#[inline(never)]
+pub fn reverse_by_table(s: &mut [u8]) {
+    let mut table = REVERSED;
+    black_box(&mut table);
+    for b in s {
+        *b = table[*b as usize];
     }
 }
 

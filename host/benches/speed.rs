@@ -4,6 +4,7 @@ mod by_hand;
 mod directories;
 mod files;
 mod libtiff;
+mod reversal;
 
 use hamrisk::limits::MOST_SIDE;
 use hamrisk::{ByteOrder, Coding, Layout, Strip};
@@ -368,6 +369,9 @@ fn main() {
     run.print();
     least(&run);
     predicted(&run);
+    if run.has("reverse_bits") {
+        reversal::print(run.libtiff.as_ref());
+    }
     if run.has("read_directory, strip_places, strip_place") {
         directories::print(run.libtiff.as_ref());
     }

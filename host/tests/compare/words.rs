@@ -50,9 +50,9 @@ fn load_at_every_place() {
 #[test]
 fn reverse_bits_of_every_byte_and_length() {
     let mut random = Random::new(3);
-    let all: Vec<u8> = (0..=255).collect();
     let others = (0..200).map(|length| random.bytes(length)).collect::<Vec<_>>();
-    for content in others.iter().chain([&all]) {
+    let every = (0..=24).flat_map(|length| (0..=255).map(move |byte| vec![byte; length])).collect::<Vec<_>>();
+    for content in others.iter().chain(&every) {
         let mut lent = Lent::of(&mut random, content);
         reverse_bits(lent.bytes_mut());
         lent.assert_front(&plain::reverse_bits(content));
