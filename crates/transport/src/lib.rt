@@ -45,7 +45,7 @@ fn reversed_byte(b: u8) -> u8
         + 128 * (b % 2)
 }
 
-// Worked out: a loop of which the compiler makes vectors.
+// Worked out bit by bit: a loop of which the compiler makes vectors.
 fn reverse_by_bits(s: &mut [u8])
     ensures { λ r. ⌜ Reversed (now (s .entry)) (now (s .exit)) ⌝ }
 {
@@ -68,7 +68,7 @@ fn reverse_by_table(s: &mut [u8], table: &[u8; 256])
     }
 }
 
-// Fewer bytes than a block. The table is stored anew wherever it is named: five bytes and fewer are worked out sooner.
+// The bytes behind the last block. The table is stored anew wherever it is named, here once a call, so that five bytes and fewer are worked out sooner.
 fn reverse_rest(s: &mut [u8])
     ensures { λ r. ⌜ Reversed (now (s .entry)) (now (s .exit)) ⌝ }
 {
