@@ -1,4 +1,4 @@
--- Lists read past their end and by their parts, the front of a buffer that is a table, and the loop that fills a list from the front. Assumes nothing.
+-- Lists read past their end and by their parts, the front of a buffer that is a table, and loops that fill a list from the front or change it in place. Assumes nothing.
 use mathlib.Core.Path.{_≡_, refl, sym, ap, _∙_}
 use mathlib.Core.List.{List, [], _∷_}
 use Prim.Native.Nat.{ℕ, zero, suc, _+_, _-_, _≤_, _<_}
@@ -7,7 +7,7 @@ use native.Mathlib.Omega.{arith}
 use lib.ListN.{length, getD, take, set, length-set, length-take}
 use lib.Seq.{getD-take, ext-getD}
 use Rattle.answer.specs.Table.{table, filled}
-use Rattle.answer.proofs.Filling.{part, length-part, part-at, length-table, table-at, table-same, filled-more, filled-all}
+use Rattle.answer.proofs.Filling.{part, length-part, part-at, length-table, table-at, table-same, filled-more, filled-rest, filled-all}
 
 -- past a list's end stands 0
 pub past-end : (l : List ℕ) (i : ℕ) → length l ≤ i → getD l i 0 ≡ 0
@@ -49,6 +49,15 @@ module _ {f : ℕ → ℕ} {old : List ℕ} {n : ℕ} {out : List ℕ} (is : Fil
 
   pub filled-end : length old ≤ n → out ≡ table (length old) f
   filled-end l = let all : n ≡ length old = omega (arith, is .inside) in (rw all at (is .so-far)) ∙ filled-all (length old) f old (omega arith)
+
+-- a list that a loop changes in place, each element by g; the next one, from what stands there now
+abbrev pub Changed : (ℕ → ℕ) → List ℕ → ℕ → List ℕ → Type 0
+Changed g old n out = FilledTo (λ k. g (getD old k 0)) old n out
+
+pub changed-next : (g : ℕ → ℕ) {old out : List ℕ} {n x : ℕ} → Changed g old n out → n < length out → x ≡ g (getD out n 0) → Changed g old (n + 1) (set out n x)
+changed-next g {old} {out} {n} {x} is more e =
+    let unread : getD out n 0 ≡ getD old n 0 = ap (λ (l : List ℕ). getD l n 0) (is .so-far) ∙ filled-rest n (λ k. g (getD old k 0)) old n (omega arith) in
+    filled-next is (omega (arith, is .same)) x (e ∙ ap g unread)
 
 -- the front of a buffer that is a table, byte by byte
 pub front-at : (n : ℕ) (f : ℕ → ℕ) (x : List ℕ) → take n x ≡ table n f → (i : ℕ) → i < n → getD x i 0 ≡ f i

@@ -1,23 +1,12 @@
--- Bytes reversed in place: what both loops keep, the bytes so far reversed and the rest as they were; and that two parts reversed one
--- after the other are the whole reversed. Assumes nothing.
-use Prim.Native.Nat.{ℕ, _+_, _-_, _≤_, _<_}
+-- Two parts of a slice, reversed one after the other, are the whole reversed. Assumes nothing.
+use Prim.Native.Nat.{ℕ, _+_, _-_, _≤_}
 use mathlib.Core.Path.{_≡_, refl, ap, _∙_}
 use mathlib.Core.List.{List, _++_}
 use native.Mathlib.Omega.{arith}
-use lib.ListN.{length, getD, set, take, drop}
+use lib.ListN.{length, getD, take, drop}
 use Rattle.answer.specs.Table.{table, filled}
 use Rattle.answer.proofs.Filling.{table-same, length-filled, filled-rest, part, length-part, part-at, halfway, front-filled, both-filled}
-use Rattle.laws.proofs.Lists.{FilledTo, filled-next}
 use Rattle.transport.specs.Moved.{reversed, Reversed}
-
-abbrev pub ReversedTo : List ℕ → ℕ → List ℕ → Type 0
-ReversedTo old i s = FilledTo (λ k. reversed (getD old k 0)) old i s
-
--- the next byte, from what stands there now
-pub reversed-next : {old s : List ℕ} {i v : ℕ} → ReversedTo old i s → i < length s → v ≡ reversed (getD s i 0) → ReversedTo old (i + 1) (set s i v)
-reversed-next {old} {s} {i} {v} is more e =
-    let unread : getD s i 0 ≡ getD old i 0 = ap (λ (l : List ℕ). getD l i 0) (is .so-far) ∙ filled-rest i (λ k. reversed (getD old k 0)) old i (omega arith) in
-    filled-next is (omega (arith, is .same)) v (e ∙ ap reversed unread)
 
 -- a part reversed, its bytes being old's from a on
 part-reversed : (old s new : List ℕ) (a e : ℕ) → a ≤ e → e ≤ length s → ((k : ℕ) → a ≤ k → getD s k 0 ≡ getD old k 0) → Reversed (part a e s) new → new ≡ table (e - a) (λ k. reversed (getD old (a + k) 0))

@@ -3,13 +3,13 @@ use borrow.Author.Needs.{needs}
 use native.Mathlib.Omega.{arith}
 use Prim.Native.Nat.{_-_, _<_}
 use lib.ListN.{length, getD}
-use Rattle.laws.proofs.Lists.{filled-none, filled-end}
-use Rattle.transport.proofs.Reversing.{ReversedTo, reversed-next}
+use Rattle.laws.proofs.Lists.{filled-none, filled-end, Changed, changed-next}
+use Rattle.transport.specs.Moved.{reversed}
 use Rattle.transport.proofs.reverse_by_table.Statement.{statement}
 use Rattle.transport.proofs.reverse_by_table.Tie as tie
 
 abbrev Inv-loop : tie.InvT-loop
-Inv-loop s₀ table i₀ s i = ReversedTo s₀ i s
+Inv-loop s₀ table i₀ s i = Changed reversed s₀ i s
 
 abbrev μ-loop : tie.MeasureT-loop
 μ-loop s₀ table i₀ s i = length s₀ - i
@@ -21,7 +21,7 @@ byte c = let at = c .before .before in omega (arith, c .slice-known .given (at .
 loop-again : tie.Need-loop-again Inv-loop μ-loop
 loop-again c =
     let read = c .before in
-    let at = read .before .before in reversed-next (at .loop .inv) (read .before .loop-test .taken) (at .before .pre .right _ (byte read))
+    let at = read .before .before in changed-next reversed (at .loop .inv) (read .before .loop-test .taken) (at .before .pre .right _ (byte read))
 
 pub reverse-by-table-spec : {M : Type 1} → statement M
 reverse-by-table-spec =
