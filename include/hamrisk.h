@@ -2,17 +2,18 @@
  * Hamrisk, the sample layer of TIFF, for C and C++: `rt staticlib capi` writes target/staticlib/libcapi.a, for x86-64 Linux.
  *
  * Every call ends on any numbers and any bytes. It returns HAMRISK_DONE, or the number of its refusal: the first fault in the order
- * that stands at the call decides. A refusal writes nothing: buffers and lent numbers keep what they held. A call that is done
- * writes the stated bytes at the front of its output and leaves the bytes past them as they were. Sums and products that a refusal
- * speaks of are in whole numbers: none wraps. Each function is proved to meet its promise, which crates/capi states.
+ * that stands at the call decides. A refusal writes nothing: buffers and lent numbers keep what they held, but for the state of
+ * hamrisk_packets_start. A call that is done writes the stated bytes at the front of its output and leaves the bytes past them as
+ * they were. Sums and products that a refusal speaks of are in whole numbers: none wraps. Each function is proved to meet its
+ * promise, which crates/capi states.
  *
  * What the proof cannot see, and the caller owes:
  * - A pointer is not null, even with length 0, and stands for as many bytes as its length says: readable and initialised for
  *   the whole call, an output's too, and writable where it is not const.
- * - `value`, `count`, `place` and `length` point to one number, `derived` to seven, `parts` to parts_len, `layout` to a
- *   hamrisk_layout and `found` to a hamrisk_page, aligned as their type.
- * - What a call writes overlaps nothing else that it is handed: `out`, `marks`, `planes`, `parts` and `found` no input, and a lent
- *   number no buffer and no other one.
+ * - `value`, `count`, `place`, `length` and `written` point to one number, `derived` to seven, `state` to HAMRISK_PACKETS, `parts`
+ *   to parts_len, `layout` to a hamrisk_layout and `found` to a hamrisk_page, aligned as their type.
+ * - What a call writes overlaps nothing else that it is handed: `out`, `marks`, `planes`, `parts`, `state` and `found` no input,
+ *   and a lent number no buffer and no other one.
  * - While the call runs nobody else writes what it reads, or touches what it writes.
  * - A bool is 0 or 1.
  */
@@ -33,7 +34,7 @@ enum {
     HAMRISK_INVALID = 2,          /* numbers that contradict each other, or forbidden content */
     HAMRISK_TRUNCATED = 3,        /* an input too short */
     HAMRISK_OUTPUT_TOO_SMALL = 4, /* an output buffer too short */
-    HAMRISK_LIMIT = 5             /* a size above the limits of hamrisk_check_layout or hamrisk_directory */
+    HAMRISK_LIMIT = 5             /* a size above the limits of hamrisk_check_layout, _directory or _packets_piece */
 };
 
 /*
@@ -84,6 +85,39 @@ uint32_t hamrisk_forward(const uint8_t *raw, size_t raw_len, size_t row_bytes, s
  */
 uint32_t hamrisk_marks(const uint8_t *damage, size_t damage_len, size_t row_bytes, size_t channels, size_t width, bool predict,
                        uint8_t *marks, size_t marks_len, size_t *count);
+
+/*
+ * A strip that arrives in pieces: hamrisk_packets_start, then hamrisk_packets_piece for each piece, then hamrisk_packets_close.
+ * Pieces have any length, 0 too, and split rows and words anywhere. What they wrote, put end to end, is what hamrisk_convert
+ * writes of the whole strip once it closes, and the whole samples so far while it is open. Between the calls the caller keeps the
+ * state, and may copy it and go on from a copy. Its numbers are the library's: changed ones are refused if no start and pieces
+ * lead to them.
+ */
+enum { HAMRISK_PACKETS = 80 }; /* numbers of a state */
+
+/*
+ * The state of a strip of which nothing has come; the numbers and flags are those of hamrisk_convert.
+ * Refuses: as hamrisk_check_strip with raw_len 0. A refusal sets all numbers of state to 0, to which no start and pieces lead.
+ * Writes: all numbers of state.
+ */
+uint32_t hamrisk_packets_start(size_t row_bytes, size_t channels, size_t width, bool le, bool predict, bool out_le,
+                               uint64_t *state);
+
+/*
+ * The samples that the next bytes of the strip complete, in the order out_le. They take at most piece_len + 7 bytes.
+ * Refuses: a state to which no start and pieces lead: 2; a strip above 1073741824 bytes with this piece: 5;
+ *          out_len below the bytes of the samples: 4.
+ * Writes: the samples, at the front of out; *written, their bytes; state, that after the piece.
+ */
+uint32_t hamrisk_packets_piece(uint64_t *state, const uint8_t *piece, size_t piece_len, uint8_t *out, size_t out_len,
+                               size_t *written);
+
+/*
+ * Whether the strip may end here: whole rows have come, or nothing.
+ * Refuses: a state to which no start and pieces lead, or bytes so far no multiple of row_bytes: 2.
+ * Writes nothing: the strip may go on.
+ */
+uint32_t hamrisk_packets_close(const uint64_t *state);
 
 /*
  * Bit i of every byte goes to bit 7 - i.

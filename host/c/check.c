@@ -1,6 +1,6 @@
 /*
- * The cases A, C, D, E, F, I, J and L of docs/RULES.md, a small TIFF file read and one written, and some refusals, through
- * include/hamrisk.h. Prints a line for each check that differs and one of counts; ends with 1 if any differs.
+ * The cases A, C, D, E, F, I, J and L of docs/RULES.md, A in pieces too, a small TIFF file read and one written, and some
+ * refusals, through include/hamrisk.h. Prints a line for each check that differs and one of counts; ends with 1 if any differs.
  */
 #include "hamrisk.h"
 
@@ -58,6 +58,36 @@ static void samples(void) {
           hamrisk_convert(a_raw, 6, 6, 1, 2, true, true, true, out, 5) == HAMRISK_OUTPUT_TOO_SMALL && holds(out, NULL, 0));
     check("64 channels", hamrisk_check_strip(128, 64, 64, 1) == HAMRISK_DONE);
     check("65 channels", hamrisk_check_strip(130, 65, 65, 1) == HAMRISK_UNSUPPORTED);
+}
+
+/* The strip of A, in four pieces that split its words. */
+static void packets(void) {
+    const uint8_t raw[6] = {0x01, 0x00, 0x02, 0x00, 0xFF, 0xFF};
+    const uint8_t samples[6] = {0x00, 0x01, 0x00, 0x03, 0x00, 0x02};
+    uint64_t state[HAMRISK_PACKETS], before[HAMRISK_PACKETS];
+    uint8_t out[ROOM];
+    size_t first = 77, written = 77;
+
+    memset(state, CANARY, sizeof state);
+    check("packets of width 3", hamrisk_packets_start(6, 1, 3, true, true, false, state) == HAMRISK_UNSUPPORTED
+                                    && state[0] == 0 && state[HAMRISK_PACKETS - 1] == 0
+                                    && hamrisk_packets_close(state) == HAMRISK_INVALID);
+    check("packets", hamrisk_packets_start(6, 1, 2, true, true, false, state) == HAMRISK_DONE
+                         && hamrisk_packets_close(state) == HAMRISK_DONE);
+    clear(out);
+    check("half a sample", hamrisk_packets_piece(state, raw, 1, out, 0, &written) == HAMRISK_DONE && written == 0);
+    check("an open strip", hamrisk_packets_close(state) == HAMRISK_INVALID);
+    memcpy(before, state, sizeof state);
+    written = 77;
+    check("no room", hamrisk_packets_piece(state, raw + 1, 3, out, 3, &written) == HAMRISK_OUTPUT_TOO_SMALL && written == 77
+                         && memcmp(state, before, sizeof state) == 0 && holds(out, NULL, 0));
+    check("two samples", hamrisk_packets_piece(state, raw + 1, 3, out, 4, &first) == HAMRISK_DONE && first == 4
+                             && hamrisk_packets_piece(state, raw, 0, out, 0, &written) == HAMRISK_DONE && written == 0);
+    check("the last one", hamrisk_packets_piece(state, raw + 4, 2, out + first, ROOM - first, &written) == HAMRISK_DONE
+                              && written == 2 && holds(out, samples, 6) && hamrisk_packets_close(state) == HAMRISK_DONE);
+    memset(state, CANARY, sizeof state);
+    check("a changed state", hamrisk_packets_piece(state, raw, 0, out, ROOM, &written) == HAMRISK_INVALID && written == 2
+                                 && hamrisk_packets_close(state) == HAMRISK_INVALID);
 }
 
 static void bytes(void) {
@@ -276,6 +306,7 @@ static void written(void) {
 
 int main(void) {
     samples();
+    packets();
     bytes();
     damage();
     pictures();

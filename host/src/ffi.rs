@@ -57,6 +57,9 @@ fn derived_of(numbers: [usize; 7]) -> Derived {
     Derived { encoded_width, plane_channels, planes, plane_length, scratch_length, output_length, colours }
 }
 
+/// The numbers of a state of packets: the header's `HAMRISK_PACKETS`.
+const PACKETS: usize = 80;
+
 /// The header's `hamrisk_page`.
 #[repr(C)]
 #[derive(Default)]
@@ -82,6 +85,24 @@ extern "C" {
         marks_len: usize,
         count: *mut usize,
     ) -> u32;
+    fn hamrisk_packets_start(
+        row_bytes: usize,
+        channels: usize,
+        width: usize,
+        le: bool,
+        predict: bool,
+        out_le: bool,
+        state: *mut u64,
+    ) -> u32;
+    fn hamrisk_packets_piece(
+        state: *mut u64,
+        piece: *const u8,
+        piece_len: usize,
+        out: *mut u8,
+        out_len: usize,
+        written: *mut usize,
+    ) -> u32;
+    fn hamrisk_packets_close(state: *const u64) -> u32;
     fn hamrisk_reverse_bits(s: *mut u8, s_len: usize);
     fn hamrisk_swap_components(raw: *const u8, raw_len: usize, width: usize, out: *mut u8, out_len: usize) -> u32;
     fn hamrisk_commit(source: *const u8, source_len: usize, out: *mut u8, out_len: usize) -> u32;
@@ -270,6 +291,83 @@ pub fn marks(damage: &[u8], strip: Strip, predict: bool, marks: &mut [u8]) -> Re
         )
     })?;
     Ok(count)
+}
+
+/// A strip that arrives in pieces, which have any length and split rows and samples anywhere. What [`piece`](Packets::piece)
+/// writes, put end to end, is what [`convert`] writes of the whole strip once it [closes](Packets::close), and the whole
+/// samples so far while it is open. It holds 640 bytes, whatever the strip's length; a clone goes on by itself.
+///
+/// ```
+/// use hamrisk::{ByteOrder, Coding, Packets, Refusal, Strip};
+///
+/// // A row of three samples of two bytes, each stored as what it adds to the one before it.
+/// let strip = Strip { row_bytes: 6, channels: 1, width: 2 };
+/// let coding = Coding { from: ByteOrder::Little, to: ByteOrder::Big, predict: true };
+/// let mut packets = Packets::start(strip, coding)?;
+/// let mut out = [0; 16];
+/// assert_eq!(packets.piece(&[0x01, 0x00, 0x02], &mut out)?, 2);
+/// assert_eq!(out[..2], [0x00, 0x01]);
+/// assert_eq!(packets.close(), Err(Refusal::Invalid));
+/// assert_eq!(packets.piece(&[0x00, 0xFF, 0xFF], &mut out)?, 4);
+/// assert_eq!(out[..4], [0x00, 0x03, 0x00, 0x02]);
+/// assert_eq!(packets.close(), Ok(()));
+/// # Ok::<(), Refusal>(())
+/// ```
+#[derive(Clone, Debug)]
+pub struct Packets {
+    /// The header's `state`.
+    state: [u64; PACKETS],
+}
+
+impl Packets {
+    /// A strip of which nothing has come.
+    ///
+    /// Refuses: as [`check_strip`] of no bytes.
+    pub fn start(strip: Strip, coding: Coding) -> Result<Packets, Refusal> {
+        let mut state = [0; PACKETS];
+        // SAFETY: the pointer is that of a local array of so many numbers, as the header asks.
+        done(unsafe {
+            hamrisk_packets_start(
+                strip.row_bytes,
+                strip.channels,
+                strip.width,
+                is_little(coding.from),
+                coding.predict,
+                is_little(coding.to),
+                state.as_mut_ptr(),
+            )
+        })?;
+        Ok(Packets { state })
+    }
+
+    /// Takes the next bytes of the strip and writes the samples that they complete to the front of `out`; answers how many
+    /// bytes these have, at most 7 more than `bytes` has.
+    ///
+    /// Refuses: a strip above 1,073,741,824 bytes with these is Limit; then `out` shorter than the samples is
+    /// OutputTooSmall. A refusal takes and writes nothing: the strip is as it was.
+    pub fn piece(&mut self, bytes: &[u8], out: &mut [u8]) -> Result<usize, Refusal> {
+        let mut written = 0;
+        // SAFETY: the pointers are those of the state, two slices and a local number, which do not overlap, as the header asks.
+        done(unsafe {
+            hamrisk_packets_piece(
+                self.state.as_mut_ptr(),
+                bytes.as_ptr(),
+                bytes.len(),
+                out.as_mut_ptr(),
+                out.len(),
+                &mut written,
+            )
+        })?;
+        Ok(written)
+    }
+
+    /// Whether the strip may end here. It may go on all the same.
+    ///
+    /// Refuses: bytes so far no multiple of row bytes is Invalid. A strip of no bytes may end.
+    pub fn close(&self) -> Result<(), Refusal> {
+        // SAFETY: the pointer is that of the state, as the header asks.
+        done(unsafe { hamrisk_packets_close(self.state.as_ptr()) })
+    }
 }
 
 /// Bit i of every byte goes to bit 7 − i, in place. Never refuses.

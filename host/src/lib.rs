@@ -1,5 +1,6 @@
 //! The sample layer of TIFF, proved: the pages and strips of a file, words, byte swaps, bit reversal, predicted samples
-//! read and written, damage marks, layouts, pictures rendered from planes and written to them, and files of planes.
+//! read, all at once or as they arrive, and written, damage marks, layouts, pictures rendered from planes and written to
+//! them, and files of planes.
 //!
 //! Each call here hands the caller's slices to a function of the library in `crates/capi`, which is proved to meet its
 //! promise on every input: it ends, stays within its slices, and refuses in a fixed order. A refusal writes nothing. A
@@ -28,6 +29,9 @@
 //! assert_eq!(converted(&raw[..5], strip, coding), Err(Refusal::Invalid));
 //! # Ok::<(), Refusal>(())
 //! ```
+//!
+//! A strip that arrives in pieces goes through [`Packets`] a piece at a time, or through a [`PacketWriter`], to which it is
+//! written, as `hamrisk stream` does. Both take the same memory however long the strip is.
 
 #![warn(missing_docs)]
 #![deny(unsafe_code)]
@@ -37,6 +41,7 @@ mod advice;
 mod ffi;
 pub mod limits;
 mod owned;
+mod packets;
 mod pages;
 mod reading;
 mod types;
@@ -44,9 +49,10 @@ mod types;
 pub use advice::advised_rows_per_strip;
 pub use ffi::{
     check_layout, check_strip, commit, convert, file_length, forward, index, load, marks, read_directory, read_word,
-    render, reverse_bits, strip, strip_place, strip_places, swap_components, write_file, write_planes,
+    render, reverse_bits, strip, strip_place, strip_places, swap_components, write_file, write_planes, Packets,
 };
 pub use owned::{converted, forwarded, marked, rendered, written, written_file};
+pub use packets::PacketWriter;
 pub use pages::{picture, placed, samples, Picture, Samples};
 pub use reading::{
     explain, explain_layout, explain_strip, skipped, Fault, LayoutFault, Reading, Skipped, StripFault, TagFault,

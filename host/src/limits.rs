@@ -51,6 +51,9 @@ impl fmt::Display for Served {
 /// Bytes of a word of [`read_word`](crate::read_word), and of a sample of a [`Strip`](crate::Strip).
 pub const WIDTHS: Served = Served::OneOf(&[1, 2, 4, 8]);
 
+/// The most bytes of a strip that arrives in [`Packets`](crate::Packets).
+pub const MOST_STRIP_BYTES: usize = 1_073_741_824;
+
 /// Bytes of a group of [`swap_components`](crate::swap_components).
 pub const SWAP_WIDTHS: Served = Served::FromTo(1, 8);
 

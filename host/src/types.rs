@@ -1,7 +1,7 @@
 //! What the calls take and answer.
 
 use std::error::Error;
-use std::fmt;
+use std::{fmt, io};
 
 /// Why a call did nothing: the first fault, in the order that stands at the call.
 #[derive(Clone, Copy, Debug, PartialEq, Eq, Hash)]
@@ -14,8 +14,8 @@ pub enum Refusal {
     Truncated,
     /// An output buffer too short.
     OutputTooSmall,
-    /// A size above the limits of [`check_layout`](crate::check_layout) or [`read_directory`](crate::read_directory), or
-    /// above what this machine has memory for.
+    /// A size above the limits of [`check_layout`](crate::check_layout), [`read_directory`](crate::read_directory) or
+    /// [`Packets::piece`](crate::Packets::piece), or above what this machine has memory for.
     Limit,
 }
 
@@ -43,6 +43,13 @@ impl fmt::Display for Refusal {
 }
 
 impl Error for Refusal {}
+
+/// An error of kind `InvalidData` that has the refusal within: `get_ref` and `downcast` give it back.
+impl From<Refusal> for io::Error {
+    fn from(refusal: Refusal) -> io::Error {
+        io::Error::new(io::ErrorKind::InvalidData, refusal)
+    }
+}
 
 /// A place counted in bytes.
 #[derive(Clone, Copy, Debug, PartialEq, Eq, PartialOrd, Ord, Hash)]

@@ -2,10 +2,10 @@
 
 mod tiff;
 
-use hamrisk::limits::{self, Served, MOST_ENTRIES, MOST_PAGES, MOST_PICTURE_BYTES, MOST_SIDE};
+use hamrisk::limits::{self, Served, MOST_ENTRIES, MOST_PAGES, MOST_PICTURE_BYTES, MOST_SIDE, MOST_STRIP_BYTES};
 use hamrisk::{
     check_layout, check_strip, file_length, read_directory, read_word, rendered, swap_components, written, ByteAt,
-    ByteOrder, Layout, Refusal, Strip,
+    ByteOrder, Coding, Layout, Packets, Refusal, Strip,
 };
 use tiff::Page;
 
@@ -43,6 +43,19 @@ fn widths_and_channels() {
     assert_served("width", limits::WIDTHS, |width| passes(read_word(&[0; 8], ByteAt(0), width, ByteOrder::Big)));
     assert_served("width", limits::SWAP_WIDTHS, |width| passes(swap_components(&[], width, &mut [])));
     assert_served("channels", limits::CHANNELS, |channels| passes(strip(channels, 1)));
+}
+
+/// All at once; a length that is served has no room for its samples.
+#[test]
+fn bytes_of_a_strip_in_pieces() {
+    let coding = Coding { from: ByteOrder::Big, to: ByteOrder::Big, predict: true };
+    let mut packets = Packets::start(Strip { row_bytes: 8, channels: 1, width: 8 }, coding).unwrap();
+    let zeros = vec![0; MOST_STRIP_BYTES + 1];
+    assert_eq!(packets.piece(&zeros, &mut []), Err(Refusal::Limit));
+    assert_eq!(packets.piece(&zeros[1..], &mut []), Err(Refusal::OutputTooSmall));
+    assert_eq!(packets.piece(&[0; 9], &mut [0; 8]), Ok(8));
+    assert_eq!(packets.piece(&zeros[9..], &mut []), Err(Refusal::Limit));
+    assert_eq!(packets.piece(&zeros[10..], &mut []), Err(Refusal::OutputTooSmall));
 }
 
 #[test]
