@@ -15,6 +15,23 @@ extern "C" {
     fn hamrisk_index(layout: *const usize, k: usize, place: *mut usize) -> u32;
 }
 
+/// Calls with a pointer to these numbers in the middle of others, which must stay; answers its status and what became of
+/// them.
+#[track_caller]
+pub fn lend<T: Copy + PartialEq + std::fmt::Debug>(
+    canary: T,
+    content: &[T],
+    call: impl FnOnce(*mut T) -> u32,
+) -> (u32, Vec<T>) {
+    let margin = [canary; 8];
+    let mut numbers = [&margin, content, &margin].concat();
+    let status = call(numbers[8..].as_mut_ptr());
+    let (front, rest) = numbers.split_at(8);
+    let (content, back) = rest.split_at(content.len());
+    assert_eq!((front, back), (&margin[..], &margin[..]));
+    (status, content.to_vec())
+}
+
 /// Calls with a pointer to `room` numbers in the middle of others, and checks what became of all of them.
 #[track_caller]
 pub fn check<T: Copy + PartialEq + std::fmt::Debug>(
@@ -23,13 +40,12 @@ pub fn check<T: Copy + PartialEq + std::fmt::Debug>(
     expected: Result<Vec<T>, u32>,
     call: impl FnOnce(*mut T) -> u32,
 ) {
-    let mut numbers = vec![canary; 8 + room + 8];
-    let mut wanted = numbers.clone();
-    let status = call(numbers[8..].as_mut_ptr());
+    let mut wanted = vec![canary; room];
+    let (status, numbers) = lend(canary, &wanted, call);
     match expected {
         Ok(values) => {
             assert_eq!(status, 0);
-            wanted[8..8 + values.len()].copy_from_slice(&values);
+            wanted[..values.len()].copy_from_slice(&values);
         }
         Err(refusal) => assert_eq!(status, refusal),
     }

@@ -10,7 +10,7 @@ pub const OUTPUT_TOO_SMALL: u32 = 4;
 pub const LIMIT: u32 = 5;
 
 /// The number of these bytes: each digit is worth 256 times the one below it.
-fn number(digits: &[u8], order: ByteOrder) -> u128 {
+pub fn number(digits: &[u8], order: ByteOrder) -> u128 {
     let worth = |value: u128, digit: &u8| value * 256 + u128::from(*digit);
     match order {
         ByteOrder::Big => digits.iter().fold(0, worth),
@@ -19,7 +19,7 @@ fn number(digits: &[u8], order: ByteOrder) -> u128 {
 }
 
 /// The bytes of a number.
-fn digits(value: u128, width: usize, order: ByteOrder) -> Vec<u8> {
+pub fn digits(value: u128, width: usize, order: ByteOrder) -> Vec<u8> {
     let digit = |p: usize| (value / 256u128.pow(p as u32) % 256) as u8;
     match order {
         ByteOrder::Little => (0..width).map(digit).collect(),
@@ -83,13 +83,18 @@ pub fn convert(raw: &[u8], s: Strip, flags: Flags, out_length: usize) -> Result<
     if out_length < raw.len() {
         return Err(OUTPUT_TOO_SMALL);
     }
+    Ok(samples(raw, s, flags))
+}
+
+/// The samples of all whole words, stored; the strip may end anywhere.
+pub fn samples(raw: &[u8], s: Strip, flags: Flags) -> Vec<u8> {
     let mut samples = words(raw, s, flags.from);
     for n in 0..samples.len() {
         if let Some(before) = predicted_from(n, s, flags.predict) {
             samples[n] = (samples[n] + samples[before]) % 256u128.pow(s.width as u32);
         }
     }
-    Ok(stored(&samples, s, flags.to))
+    stored(&samples, s, flags.to)
 }
 
 pub fn forward(raw: &[u8], s: Strip, flags: Flags, out_length: usize) -> Result<Vec<u8>, u32> {

@@ -31,6 +31,12 @@ impl Random {
         (0..length).map(|_| if self.flag() { self.next() as u8 } else { self.one_of(&[0, 1, 127, 128, 255]) }).collect()
     }
 
+    /// Fewer than `end` such bytes.
+    pub fn fewer_bytes(&mut self, end: usize) -> Vec<u8> {
+        let length = self.below(end);
+        self.bytes(length)
+    }
+
     /// A length that is often the exact one, else a little or a lot off.
     pub fn around(&mut self, exact: usize) -> usize {
         match self.below(6) {

@@ -8,7 +8,7 @@ use hamrisk::{check_strip, convert, forward, marks, ByteOrder, Coding, Refusal, 
 
 const CHANNELS: [usize; 8] = [0, 1, 2, 3, 4, 63, 64, 65];
 
-fn coding(flags: Flags) -> Coding {
+pub fn coding(flags: Flags) -> Coding {
     Coding { from: flags.from, to: flags.to, predict: flags.predict }
 }
 
@@ -16,7 +16,7 @@ fn order(random: &mut Random) -> ByteOrder {
     random.one_of(&[ByteOrder::Little, ByteOrder::Big])
 }
 
-fn flags(random: &mut Random) -> Flags {
+pub fn flags(random: &mut Random) -> Flags {
     Flags { from: order(random), predict: random.below(3) > 0, to: order(random) }
 }
 
@@ -29,7 +29,7 @@ struct Case {
 }
 
 /// A geometry and a length that are mostly served, and often a little wrong.
-fn geometry(random: &mut Random) -> (Strip, usize) {
+pub fn geometry(random: &mut Random) -> (Strip, usize) {
     let width = if random.below(5) == 0 { random.below(10) } else { random.one_of(&[1, 2, 4, 8]) };
     let channels = if random.flag() { random.one_of(&CHANNELS) } else { 1 + random.below(5) };
     let pixels = if random.below(8) == 0 { random.below(90) } else { random.below(7) };
@@ -119,7 +119,7 @@ fn marks_case(random: &mut Random, case: Case) -> bool {
 
 /// Both kinds of answer must be common, or the cases say little.
 #[track_caller]
-fn assert_mixed(done: usize, cases: usize) {
+pub fn assert_mixed(done: usize, cases: usize) {
     assert!((cases / 4..cases * 3 / 4).contains(&done), "{done} of {cases} were done");
 }
 
