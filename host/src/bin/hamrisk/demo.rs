@@ -3,7 +3,7 @@
 use crate::args::Args;
 use crate::failure::Failure;
 use crate::{files, pictures};
-use hamrisk::{converted, forwarded, load, marked, ByteOrder, Coding, Layout, Refusal, SampleAt, Strip};
+use hamrisk::{forwarded, load, marked, ByteOrder, Coding, Layout, Packets, Refusal, SampleAt, Strip};
 use std::fs;
 use std::path::{Path, PathBuf};
 
@@ -59,12 +59,10 @@ impl Story {
     fn new() -> Result<Story, Refusal> {
         let sent = shelf();
         let samples: Vec<u8> = sent.iter().flat_map(|depth| depth.to_le_bytes()).collect();
-        let mut words = forwarded(&samples, STRIP, CODING)?;
+        let words = forwarded(&samples, STRIP, CODING)?;
         let mut damage = vec![0; words.len()];
-        let lost = LOST * PACKET..(LOST + 1) * PACKET;
-        words[lost.clone()].fill(0);
-        damage[lost].fill(1);
-        let arrived = converted(&words, STRIP, CODING.back())?;
+        damage[LOST * PACKET..(LOST + 1) * PACKET].fill(1);
+        let arrived = received(&words)?;
         let read = (0..W * H).map(|n| load(&arrived, SampleAt(n), true, ByteOrder::Little).map(|v| v as u16));
         let (marks, count) = marked(&damage, STRIP, CODING.predict)?;
         Ok(Story { sent, read: read.collect::<Result<_, _>>()?, marks, count })
@@ -121,6 +119,19 @@ impl Story {
         write_picture(&folder.join("plain"), shades(&self.read))?;
         write_picture(&folder.join("marks"), marks)
     }
+}
+
+/// The samples that a receiver has who converts each packet as it comes, and zeros in place of the lost one.
+fn received(words: &[u8]) -> Result<Vec<u8>, Refusal> {
+    let mut packets = Packets::start(STRIP, CODING.back())?;
+    let mut samples = vec![0; words.len()];
+    let mut written = 0;
+    for (number, packet) in words.chunks(PACKET).enumerate() {
+        let came = if number == LOST { &[0; PACKET][..packet.len()] } else { packet };
+        written += packets.piece(came, &mut samples[written..])?;
+    }
+    packets.close()?;
+    Ok(samples)
 }
 
 /// The depth at each place.
