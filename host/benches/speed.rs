@@ -4,6 +4,7 @@ mod by_hand;
 mod directories;
 mod files;
 mod libtiff;
+mod packets;
 mod reversal;
 
 use hamrisk::limits::MOST_SIDE;
@@ -369,6 +370,9 @@ fn main() {
     run.print();
     least(&run);
     predicted(&run);
+    if run.has("packets") {
+        packets::print();
+    }
     if run.has("reverse_bits") {
         reversal::print(run.libtiff.as_ref());
     }
