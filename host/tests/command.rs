@@ -7,7 +7,7 @@ mod tiff;
 use hamrisk::{read_directory, ByteOrder, Coding, Layout, Strip};
 use std::ffi::OsStr;
 use std::fs;
-use std::io::{ErrorKind, Write};
+use std::io::{ErrorKind, Read, Write};
 use std::os::unix::ffi::OsStrExt;
 use std::path::{Path, PathBuf};
 use std::process::{Child, Command, Output, Stdio};
@@ -173,6 +173,101 @@ fn large_files() {
     raw.pop();
     let refused = format!("convert refused: 2 Invalid: length {} is no multiple of row bytes 3000", raw.len());
     folder.refused(&raw, &format!("convert in out {options}"), 2, &refused);
+}
+
+/// A strip that goes in byte by byte: each sample comes out before the next byte goes in, and all are those of `convert`.
+#[test]
+fn stream_byte_by_byte() {
+    let folder = Folder::new("stream");
+    let raw: Vec<u8> = (0..48u32).map(|n| (n * n / 3) as u8).collect();
+    for (width, orders) in [(1, ""), (2, "--from le --to be"), (4, "--from be --to be"), (8, "--from be --to le")] {
+        let options = format!("--row-bytes 24 --channels 3 --width {width} --predict {orders}");
+        let converted = folder.written(&raw, &format!("convert in out {options}"));
+        let mut child = start(folder.command(&format!("stream {options}")).stdin(Stdio::piped()));
+        let (mut input, mut output) = (child.stdin.take().unwrap(), child.stdout.take().unwrap());
+        for (sample, expected) in raw.chunks(width).zip(converted.chunks(width)) {
+            for byte in sample {
+                input.write_all(&[*byte]).and_then(|()| input.flush()).unwrap();
+            }
+            let mut came = vec![0; width];
+            output.read_exact(&mut came).unwrap();
+            assert_eq!(came, expected, "{options}");
+        }
+        drop(input);
+        assert_eq!(output.read_to_end(&mut vec![]).unwrap(), 0);
+        assert_eq!(told(child.wait_with_output().unwrap()), (0, vec![], String::new()));
+    }
+}
+
+/// More than a pipe, a read or a piece holds.
+#[test]
+fn stream_of_a_large_strip() {
+    let folder = Folder::new("stream-large");
+    let raw: Vec<u8> = (0..3_000 * 700u32).map(|n| (n.wrapping_mul(n) >> 9) as u8).collect();
+    folder.put("in", &raw);
+    let options = "--row-bytes 3000 --channels 3 --width 4 --predict --from be --to le";
+    let converted = folder.written(&raw, &format!("convert in out {options}"));
+    let input = fs::File::open(folder.0.join("in")).unwrap();
+    let (status, samples, error) = told(folder.command(&format!("stream {options}")).stdin(input).output().unwrap());
+    assert_eq!((status, error.as_str()), (0, ""));
+    assert!(samples == converted);
+}
+
+/// What is whole is written before a ragged end is told.
+#[test]
+fn stream_with_a_ragged_end() {
+    let folder = Folder::new("stream-ragged");
+    let raw = [1, 0, 2, 0, 255, 255, 5, 0, 1, 0, 1, 0];
+    let samples = [0, 1, 0, 3, 0, 2, 0, 5, 0, 6, 0, 7];
+    let line = "stream --row-bytes 6 --channels 1 --width 2 --predict --from le --to be";
+    for length in 0..=raw.len() {
+        let left = length % 6;
+        let words = "hamrisk: stream refused: 2 Invalid: ";
+        let said = format!("{words}{length} bytes came, no multiple of row bytes 6: {left} left over\n");
+        let (status, said) = if left == 0 { (0, String::new()) } else { (2, said) };
+        let whole = samples[..length / 2 * 2].to_vec();
+        assert_eq!(folder.piped(&raw[..length], line), (status, whole, said), "{length}");
+    }
+    assert!(folder.names().is_empty());
+}
+
+#[test]
+fn streams_that_are_refused() {
+    let folder = Folder::new("stream-refused");
+    for (options, status, words) in [
+        ("--row-bytes 7 --channels 3 --width 3", 1, "Unsupported: width 3 is not 1, 2, 4 or 8"),
+        ("--row-bytes 65 --channels 65 --width 1", 1, "Unsupported: channels 65 is not 1 to 64"),
+        ("--row-bytes 0 --channels 3 --width 2", 1, "Unsupported: row bytes 0 is not served"),
+        ("--row-bytes 7 --channels 3 --width 2", 2, "Invalid: row bytes 7 is no multiple of channels 3 × width 2 (6)"),
+    ] {
+        let line = format!("stream {options} --no-predict --from le --to be");
+        let said = format!("hamrisk: stream refused: {status} {words}\n");
+        assert_eq!(folder.piped(&[1; 12], &line), (status, vec![], said), "{line}");
+    }
+    let strip = "--row-bytes 8 --channels 1 --width 2";
+    for (options, words) in [
+        ("--predict --to be", "--from is missing: width 2 wants a byte order, le or be"),
+        ("--predict --from be", "--to is missing: width 2 wants a byte order, le or be"),
+        ("--from be --to be", "one of --predict and --no-predict is wanted"),
+        ("- --predict --from be --to be", "no file wanted, 1 file given"),
+    ] {
+        folder.wrong("stream", &format!("{strip} {options}"), words);
+    }
+}
+
+/// The whole of the largest strip goes through, and one byte more is refused: both in little memory.
+#[test]
+fn stream_of_a_strip_above_the_limit() {
+    let folder = Folder::new("stream-limit");
+    let line = "stream --row-bytes 8 --channels 1 --width 8 --no-predict --from le --to le";
+    let most = hamrisk::limits::MOST_STRIP_BYTES;
+    let input = fs::File::create(folder.0.join("in")).unwrap();
+    input.set_len(most as u64 + 8).unwrap();
+    let input = fs::File::open(folder.0.join("in")).unwrap();
+    let end = folder.command(line).stdin(input).stdout(Stdio::null()).stderr(Stdio::piped()).output().unwrap();
+    let (status, _, error) = told(end);
+    let said = format!("hamrisk: stream refused: 5 Limit: {} bytes came, above {most}\n", most + 8);
+    assert_eq!((status, error), (5, said));
 }
 
 #[test]
@@ -356,6 +451,9 @@ fn wrong_command_lines_end_with_64() {
         "convert in out --row-bytes 6 --channels 1 --width 2 --to le --predict --from big",
         "convert in out --row-bytes 6 --channels 1 --width 1 --to le --predict --from big",
         "convert in out --row-bytes 6 --channels 1 --predict --from le --to le",
+        "stream in out --row-bytes 6 --channels 1 --width 1 --predict",
+        "stream --row-bytes 6 --channels 1 --width 1 --predict --pgm",
+        "stream --row-bytes 6 --width 1 --predict",
         "render in out --w 2",
         "render in out --w 2 --h 1 --bytes 2 --le --be",
         "render in out --w 2 --h 1 --ch 3 --palette --le",
@@ -426,6 +524,7 @@ fn every_command_stands_in_a_pipe() {
     let palette = "--w 2 --h 1 --ch 3 --slots 8 --palette --be";
     for (line, input, output) in [
         (&*format!("convert {strip} --from le --to be"), &[1, 0, 2, 0][..], &[0, 1, 0, 3][..]),
+        (&format!("stream {} --from le --to be", &strip[4..]), &[1, 0, 2, 0], &[0, 1, 0, 3]),
         (&format!("forward {strip} --from be --to le"), &[0, 1, 0, 3], &[1, 0, 2, 0]),
         ("swap - - --width 3", &[1, 2, 3], &[3, 2, 1]),
         ("reverse - -", &[1, 80], &[128, 10]),
@@ -501,17 +600,21 @@ fn a_refusal_leaves_standard_output_empty() {
 fn streams_that_cannot_be_read_or_written_end_with_74() {
     let folder = Folder::new("stream-files");
     folder.put("in", &[7; 100_000]);
-    let mut broken = start(folder.command("reverse - -").stdin(Stdio::piped()));
-    drop(broken.stdout.take());
-    feed(&mut broken, &[7; 100_000]);
-    let (status, _, error) = told(broken.wait_with_output().unwrap());
-    assert_eq!((status, error.as_str()), (74, "hamrisk: standard output: Broken pipe (os error 32)\n"));
-    let full = fs::File::options().write(true).open("/dev/full").unwrap();
-    let (status, _, error) = told(folder.command("reverse in -").stdout(full).output().unwrap());
-    assert_eq!((status, error.as_str()), (74, "hamrisk: standard output: No space left on device (os error 28)\n"));
-    let no_file = fs::File::open(&folder.0).unwrap();
-    let (status, _, error) = told(folder.command("reverse - -").stdin(no_file).output().unwrap());
-    assert_eq!((status, error.as_str()), (74, "hamrisk: standard input: Is a directory (os error 21)\n"));
+    let file =
+        |name: &str| fs::File::options().read(true).write(name == "/dev/full").open(folder.0.join(name)).unwrap();
+    for line in ["reverse - -", "stream --row-bytes 4 --channels 1 --width 1 --predict"] {
+        let mut broken = start(folder.command(line).stdin(Stdio::piped()));
+        drop(broken.stdout.take());
+        feed(&mut broken, &[7; 100_000]);
+        let (status, _, error) = told(broken.wait_with_output().unwrap());
+        assert_eq!((status, error.as_str()), (74, "hamrisk: standard output: Broken pipe (os error 32)\n"));
+        let full = folder.command(line).stdin(file("in")).stdout(file("/dev/full")).output().unwrap();
+        let (status, _, error) = told(full);
+        let said = "hamrisk: standard output: No space left on device (os error 28)\n";
+        assert_eq!((status, error.as_str()), (74, said));
+        let (status, _, error) = told(folder.command(line).stdin(file("")).output().unwrap());
+        assert_eq!((status, error.as_str()), (74, "hamrisk: standard input: Is a directory (os error 21)\n"));
+    }
 }
 
 #[test]
@@ -530,8 +633,8 @@ fn help_of_each() {
     let (status, overview, _) = folder.run("--help");
     assert_eq!(status, 0);
     for name in [
-        "info", "picture", "samples", "convert", "forward", "marks", "swap", "reverse", "render", "planes", "wrap",
-        "demo",
+        "info", "picture", "samples", "convert", "stream", "forward", "marks", "swap", "reverse", "render", "planes",
+        "wrap", "demo",
     ] {
         assert!(overview.contains(&format!("\n  {name} ")), "{name}");
         let (status, text, error) = folder.run(&format!("{name} --help"));
@@ -542,6 +645,7 @@ fn help_of_each() {
     }
     for (name, served) in [
         ("convert", "bytes of a sample: 1, 2, 4 or 8; required"),
+        ("stream", "which has at most 1073741824 bytes"),
         ("marks", "samples of a pixel, 1 to 64; required"),
         ("swap", "bytes of a group, 1 to 8; required"),
         ("render", "columns of the picture, 1 to 16384; required"),

@@ -131,6 +131,15 @@ pub const COMMANDS: &[Command] = &[
         run: strips::convert,
     },
     Command {
+        syntax: Syntax { name: "stream", files: &[], groups: &[STRIP, PREDICT, ORDERS] },
+        about: "read a strip as it arrives, as convert does, and write each sample once it is whole",
+        notes:
+            "IN is standard input, and OUT standard output. The memory that it takes does not grow with the strip,\n\
+                which has at most 1073741824 bytes. That a strip does not end with a whole row is told at its end,\n\
+                after all samples that are whole; so what was written before a refusal stays written.\n",
+        run: strips::stream,
+    },
+    Command {
         syntax: Syntax { name: "forward", files: &["IN", "OUT"], groups: &[STRIP, PREDICT, ORDERS] },
         about: "write the words that convert reads back to the samples IN",
         notes: "",

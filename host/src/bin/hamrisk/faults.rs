@@ -1,7 +1,7 @@
 //! Which number a refusal is about: each call's faults in the order in which the library looks for them.
 
 use crate::failure::Fault;
-use hamrisk::limits::{self, Served, MOST_PICTURE_BYTES, MOST_SIDE};
+use hamrisk::limits::{self, Served, MOST_PICTURE_BYTES, MOST_SIDE, MOST_STRIP_BYTES};
 use hamrisk::Refusal::{self, Invalid, Limit, Truncated, Unsupported};
 use hamrisk::{check_layout, ByteOrder, Layout, Strip};
 
@@ -39,6 +39,17 @@ pub fn of_strip(length: usize, strip: Strip) -> Option<Fault> {
             format!("{row} is no multiple of channels {channels} × width {width} ({pixel})"),
         ),
         fault(ragged(length, row_bytes), Invalid, format!("length {length} is no multiple of {row}")),
+    ])
+}
+
+/// Of a strip of which so many bytes came, one piece after the other.
+pub fn of_stream(came: usize, strip: Strip) -> Option<Fault> {
+    let row_bytes = strip.row_bytes;
+    let left = came.checked_rem(row_bytes).unwrap_or(0);
+    first([
+        of_strip(0, strip),
+        fault(came > MOST_STRIP_BYTES, Limit, format!("{came} bytes came, above {MOST_STRIP_BYTES}")),
+        fault(left > 0, Invalid, format!("{came} bytes came, no multiple of row bytes {row_bytes}: {left} left over")),
     ])
 }
 
@@ -173,7 +184,7 @@ fn grey_byte(l: &Layout, picture: &[u8]) -> Option<Fault> {
 #[cfg(test)]
 mod tests {
     use super::*;
-    use hamrisk::{check_strip, rendered, swap_components, written, written_file};
+    use hamrisk::{check_strip, rendered, swap_components, written, written_file, Coding, Packets};
 
     /// The fault that is named is one that leads to the library's refusal; without a refusal there is none.
     #[track_caller]
@@ -189,6 +200,25 @@ mod tests {
                 for width in sizes {
                     let strip = Strip { row_bytes, channels, width };
                     assert_agrees(check_strip(length, strip), of_strip(length, strip));
+                }
+            }
+        }
+    }
+
+    #[test]
+    fn faults_of_streams_agree_with_the_library() {
+        let coding = Coding { from: ByteOrder::Big, to: ByteOrder::Big, predict: true };
+        let zeros = vec![0; MOST_STRIP_BYTES + 1];
+        let sizes = [0, 1, 2, 3, 4, 6, 8, 12, 64, 65, 130];
+        for came in sizes.into_iter().chain([MOST_STRIP_BYTES + 1]) {
+            for (row_bytes, channels) in sizes.into_iter().flat_map(|row| sizes.map(|channels| (row, channels))) {
+                for width in sizes {
+                    let strip = Strip { row_bytes, channels, width };
+                    let answer = Packets::start(strip, coding).and_then(|mut packets| {
+                        packets.piece(&zeros[..came], &mut [0; 130])?;
+                        packets.close()
+                    });
+                    assert_agrees(answer, of_stream(came, strip));
                 }
             }
         }

@@ -1,10 +1,13 @@
-//! Files read and written whole; `-` stands for standard input and output.
+//! Files read and written whole, `-` standing for standard input and output; and standard input read as it comes.
 
 use crate::failure::Failure;
 use crate::progress::{Progress, PIECE};
 use std::fs::{self, File};
-use std::io::{self, Read, Write};
+use std::io::{self, ErrorKind, Read, Write};
 use std::path::{Path, PathBuf};
+
+/// The most bytes of one read of a stream.
+const READ: usize = 64 << 10;
 
 /// Whether a name stands for standard input, or for standard output where it is written.
 pub fn is_stream(path: &Path) -> bool {
@@ -37,10 +40,24 @@ fn read_pieces(mut file: impl Read, expected: usize) -> io::Result<Vec<u8>> {
     }
 }
 
+/// Hands on what comes on standard input, a read at a time, to its end.
+pub fn read_stream(mut take: impl FnMut(&[u8]) -> Result<(), Failure>) -> Result<(), Failure> {
+    let mut stream = io::stdin().lock();
+    let mut bytes = vec![0; READ];
+    loop {
+        match stream.read(&mut bytes) {
+            Ok(0) => return Ok(()),
+            Ok(count) => take(&bytes[..count])?,
+            Err(error) if error.kind() == ErrorKind::Interrupted => {}
+            Err(error) => return told("standard input", Err(error)),
+        }
+    }
+}
+
 /// Writes a file of these parts, one after the other. It appears under its name only once it is complete.
 pub fn write(path: &Path, parts: &[&[u8]]) -> Result<(), Failure> {
     if is_stream(path) {
-        return told("standard output", write_pieces(io::stdout().lock(), parts));
+        return write_pieces(io::stdout().lock(), parts).map_err(output_failed);
     }
     let target = fs::canonicalize(path).unwrap_or_else(|_| path.to_path_buf());
     let written = match fs::metadata(&target) {
@@ -78,7 +95,7 @@ fn write_pieces(mut file: impl Write, parts: &[&[u8]]) -> io::Result<()> {
 
 /// Text on standard output.
 pub fn print(text: &str) -> Result<(), Failure> {
-    told("standard output", write_pieces(io::stdout().lock(), &[text.as_bytes()]))
+    write_pieces(io::stdout().lock(), &[text.as_bytes()]).map_err(output_failed)
 }
 
 /// Text beside the file `out`: on standard output, or on standard error if the file itself is there.
@@ -87,6 +104,11 @@ pub fn print_beside(out: &Path, text: &str) -> Result<(), Failure> {
         return told("standard error", write_pieces(io::stderr().lock(), &[text.as_bytes()]));
     }
     print(text)
+}
+
+/// Standard output cannot be written.
+pub fn output_failed(error: io::Error) -> Failure {
+    Failure::file(Path::new("standard output"), error)
 }
 
 /// What became of a stream.

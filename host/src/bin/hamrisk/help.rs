@@ -11,9 +11,16 @@ A file of that name is ./- here.
 
 const STATUS: &str = "\
 Exit status: 0 done; 1 Unsupported, 2 Invalid, 3 Truncated, 4 OutputTooSmall or 5 Limit if the library
-refuses; 64 for a wrong command line; 74 for a file or stream that cannot be read or written. OUT is
-written only once all is done: a refusal leaves no file behind, one that was there as it was, and
+refuses; 64 for a wrong command line; 74 for a file or stream that cannot be read or written.
+";
+
+const WHOLE: &str = "\
+OUT is written only once all is done: a refusal leaves no file behind, one that was there as it was, and
 standard output empty.
+";
+
+const ARRIVING: &str = "\
+stream alone writes while it reads: what it wrote before a refusal stays written.
 ";
 
 pub fn overview() -> String {
@@ -21,7 +28,7 @@ pub fn overview() -> String {
     for command in COMMANDS {
         text += &format!("  {:8} {}\n", command.syntax.name, command.about);
     }
-    text + "\nhamrisk COMMAND --help says what a command takes.\n\n" + STREAMS + STATUS
+    text + "\nhamrisk COMMAND --help says what a command takes.\n\n" + STREAMS + STATUS + WHOLE + ARRIVING
 }
 
 pub fn of(command: &Command) -> String {
@@ -41,6 +48,6 @@ pub fn of(command: &Command) -> String {
     if has_options {
         text += "\n";
     }
-    let streams = if command.syntax.files.is_empty() { "" } else { STREAMS };
-    text + streams + STATUS
+    let (streams, whole) = if command.syntax.files.is_empty() { ("", "") } else { (STREAMS, WHOLE) };
+    text + streams + STATUS + whole
 }

@@ -1,10 +1,11 @@
-//! The commands over strips and plain bytes: convert, forward, marks, swap, reverse.
+//! The commands over strips and plain bytes: convert, stream, forward, marks, swap, reverse.
 
 use crate::args::Args;
 use crate::failure::Failure;
 use crate::progress::{Progress, LARGE, PIECE};
 use crate::{faults, files, pictures};
-use hamrisk::{check_strip, ByteOrder, Coding, Refusal, Strip};
+use hamrisk::{check_strip, ByteOrder, Coding, PacketWriter, Refusal, Strip};
+use std::io::{self, Write};
 
 type Transform = fn(&[u8], Strip, Coding, &mut [u8]) -> Result<(), Refusal>;
 
@@ -17,9 +18,7 @@ pub fn forward(args: &Args) -> Result<(), Failure> {
 }
 
 fn transform(args: &Args, name: &'static str, call: Transform) -> Result<(), Failure> {
-    let strip = strip(args)?;
-    let (from, to) = (order(args, "from", strip.width)?, order(args, "to", strip.width)?);
-    let coding = Coding { from, to, predict: predict(args)? };
+    let (strip, coding) = strip_and_coding(args)?;
     let raw = files::read(args.file(0))?;
     let mut out = vec![0; raw.len()];
     check_strip(raw.len(), strip)
@@ -29,6 +28,23 @@ fn transform(args: &Args, name: &'static str, call: Transform) -> Result<(), Fai
         })
         .map_err(|refusal| Failure::refused(name, refusal, faults::of_strip(raw.len(), strip)))?;
     files::write(args.file(1), &[&out])
+}
+
+/// Converts what comes on standard input as it comes: the samples of each read are written before the next one.
+pub fn stream(args: &Args) -> Result<(), Failure> {
+    let (strip, coding) = strip_and_coding(args)?;
+    let mut came = 0;
+    let stopped = |error: io::Error, came| match error.downcast() {
+        Ok(refusal) => Failure::refused("stream", refusal, faults::of_stream(came, strip)),
+        Err(error) => files::output_failed(error),
+    };
+    let mut samples =
+        PacketWriter::new(strip, coding, io::stdout().lock()).map_err(|refusal| stopped(refusal.into(), 0))?;
+    files::read_stream(|bytes| {
+        came += bytes.len();
+        samples.write_all(bytes).and_then(|()| samples.flush()).map_err(|error| stopped(error, came))
+    })?;
+    samples.finish().map(drop).map_err(|error| stopped(error, came))
 }
 
 pub fn marks(args: &Args) -> Result<(), Failure> {
@@ -106,6 +122,12 @@ fn by_pieces(
 
 fn strip(args: &Args) -> Result<Strip, Failure> {
     Ok(Strip { row_bytes: args.number("row-bytes")?, channels: args.number("channels")?, width: args.number("width")? })
+}
+
+fn strip_and_coding(args: &Args) -> Result<(Strip, Coding), Failure> {
+    let strip = strip(args)?;
+    let (from, to) = (order(args, "from", strip.width)?, order(args, "to", strip.width)?);
+    Ok((strip, Coding { from, to, predict: predict(args)? }))
 }
 
 /// Has to be said of samples of more than one byte, as a wrong guess would swap every one without a word.
