@@ -83,7 +83,12 @@ fn geometry(random: &mut Random) -> Strip {
         1 => random.one_of(&[63, 64]),
         _ => 1 + random.below(4),
     };
-    let pixels = 1 + random.below(if channels > 4 { 2 } else { 9 });
+    let most_pixels = match channels {
+        5.. => 2,
+        _ if random.below(30) == 0 => 120,
+        _ => 9,
+    };
+    let pixels = 1 + random.below(most_pixels);
     Strip { row_bytes: channels * width * pixels, channels, width }
 }
 
@@ -269,6 +274,25 @@ fn every_pair_of_cuts() {
             for (from, to) in (0..=whole.len()).flat_map(|to| (0..=to).map(move |from| (from, to))) {
                 let pieces = [&whole[..from], &whole[from..to], &whole[to..]];
                 assert_eq!(put_together(&packets, &pieces), expected, "{strip:?} {coding:?} {from} {to}");
+            }
+        }
+    }
+}
+
+/// Rows shorter and longer than a packet, in packets of several lengths.
+#[test]
+fn packets_of_large_strips() {
+    let mut random = Random::new(55);
+    for (width, channels) in [1, 2, 4, 8].into_iter().flat_map(|width| [1, 2, 3, 4, 5, 64].map(|ch| (width, ch))) {
+        for pixels in [3, 64, 2_000 / channels] {
+            let strip = Strip { row_bytes: channels * width * pixels, channels, width };
+            let whole = random.bytes((20_000 / strip.row_bytes + 1) * strip.row_bytes);
+            let coding = coding(flags(&mut random));
+            let expected = converted(&whole, strip, coding).unwrap();
+            let packets = Packets::start(strip, coding).unwrap();
+            for length in [13, 1_400, 4_095, 65_536] {
+                let pieces: Vec<&[u8]> = whole.chunks(length).collect();
+                assert!(put_together(&packets, &pieces) == expected, "{strip:?} {coding:?} {length}");
             }
         }
     }
