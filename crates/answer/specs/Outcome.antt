@@ -63,6 +63,11 @@ abbrev pub after : {A : Type 0} → Outcome A → List ℕ → List ℕ → List
 after (done a) written old = written ++ drop (length written) old
 after (refused n) written old = old
 
+-- what else a call hands back: the new, or, on a refusal, the old
+abbrev pub instead : {A B : Type 0} → Outcome A → B → B → B
+instead (done a) new old = new
+instead (refused n) new old = old
+
 -- the promise of a call: its answer, and what its lent buffer then holds
 pub record Promise {A : Type 0} (outcome : Outcome A) (written old : List ℕ) (answer : Outcome A) (new : List ℕ) : Type 0 where
   pub answers : answer ≡ outcome

@@ -1,9 +1,12 @@
 -- Items in groups of a size: where an item stands, and which group and which item a place is. Assumes nothing.
 use Prim.Native.Nat.{ℕ, zero, suc, _+_, _-_, _*_, _/_, _%_, _≤_, _<_}
 use mathlib.Core.Path.{_≡_, sym, ap, _∙_}
-use native.Mathlib.Nat.{mul-comm, mul-assoc, mul-mod-left, div-mul-le-self, le-div-iff-mul-le, mul-zero, mul-suc, mul-le-mul-left, mul-le-mul-right, add-mul, one-mul, zero-add, add-zero, div-add-mod, mul-add-div-right, div-eq-of-lt, mul-add-mod-self-right, mod-add-mod, mod-eq-of-lt, dvd-of-mod-eq-zero, mod-eq-zero-of-dvd, dvd-trans, dvd-mul-left}
+use native.Mathlib.Nat.{mul-comm, mul-assoc, mul-mod-left, div-mul-le-self, le-div-iff-mul-le, mul-zero, mul-suc, mul-le-mul-left, mul-le-mul-right, add-mul, one-mul, zero-add, add-zero, div-add-mod, div-add-mod', mod-lt, mul-add-div-right, div-eq-of-lt, mul-add-mod-self-right, mod-add-mod, mod-eq-of-lt, dvd-of-mod-eq-zero, mod-eq-zero-of-dvd, dvd-trans, dvd-mul-left}
 use native.Mathlib.Decide.{decLt}
 use native.Mathlib.Omega.{arith}
+use borrow.Author.Tests.{eq-eqb, ne-eqb}
+use lib.Dec.{eqb}
+use Rattle.answer.specs.Outcome.{pick}
 
 -- item b of group a, in groups of m
 pub grouped : {a b n m : ℕ} → a < n → b < m → a * m + b < n * m
@@ -49,3 +52,38 @@ whole-last a b c = rw (← mul-assoc a b c) (mul-mod-left (a * b) c)
 
 pub whole-middle : (a b c : ℕ) → a * (b * c) % b ≡ 0
 whole-middle a b c = rw (mul-comm b c) (whole-last a c b)
+
+-- a place that moves on by one: within its group, and past its end
+pub within : (x d : ℕ) → x % d + 1 < d → ((x + 1) / d ≡ x / d) × ((x + 1) % d ≡ x % d + 1)
+within x d h =
+    let next : x + 1 ≡ x / d * d + (x % d + 1) = omega (arith, div-add-mod' x d) in
+    (rw next (group-of (x / d) d h), rw next (item-of (x / d) d h))
+
+pub over : (x d : ℕ) → 0 < d → x % d + 1 ≡ d → ((x + 1) / d ≡ x / d + 1) × ((x + 1) % d ≡ 0)
+over x d some h =
+    let next : x + 1 ≡ (x / d + 1) * d + 0 = omega (arith, div-add-mod' x d, add-mul (x / d) 1 d, one-mul d) in
+    (ap (λ (y : ℕ). y / d) next ∙ group-of (x / d + 1) d some, ap (λ (y : ℕ). y % d) next ∙ item-of (x / d + 1) d some)
+
+-- so which item of its group the next place is
+pub turned : (x d : ℕ) → 0 < d → (x + 1) % d ≡ pick (eqb (x % d + 1) d) 0 (x % d + 1)
+turned x d some = by (decLt (x % d + 1) d)
+  where
+    by : Dec (x % d + 1 < d) → (x + 1) % d ≡ pick (eqb (x % d + 1) d) 0 (x % d + 1)
+    by (yes l) = rw (ne-eqb (x % d + 1) d (λ e. omega arith)) (within x d l .1)
+    by (no m) = let end : x % d + 1 ≡ d = omega (arith, mod-lt x some) in rw (eq-eqb (x % d + 1) d end) (over x d some end .1)
+
+-- more places have as many groups or more
+pub more-groups : (x y d : ℕ) → 0 < d → x ≤ y → x / d ≤ y / d
+more-groups x y d some h = le-div-iff-mul-le {k = d} {x = x / d} {y = y} some .1 (omega (arith, div-add-mod' x d))
+
+-- two places that are the same item of their groups are a group apart
+pub apart : (a b d : ℕ) → a < b → a % d ≡ b % d → a + d ≤ b
+apart a b d l e = by (decLt (a / d) (b / d))
+  where
+    by : Dec (a / d < b / d) → a + d ≤ b
+    by (yes m) =
+        let up : a / d + 1 ≤ b / d = omega arith in
+        omega (arith, mul-le-mul-right d up, add-mul (a / d) 1 d, one-mul d, div-add-mod' a d, div-add-mod' b d)
+    by (no m) =
+        let up : b / d ≤ a / d = omega arith in
+        absurd (omega (arith, mul-le-mul-right d up, div-add-mod' a d, div-add-mod' b d))

@@ -2,6 +2,7 @@
 mod differences;
 mod fours;
 mod narrow;
+mod resume;
 mod steps;
 mod sums;
 mod threes;
@@ -14,6 +15,7 @@ use answer::Done;
 use answer::Refusal;
 ghost use mathlib.Core.Bool.{true};
 ghost use Rattle.samples.specs.Sample.{strip};
+ghost use Rattle.rows.specs.Resume.{RowResumed};
 ghost use Rattle.rows.specs.Row.{RowServed, StripServed, RoomChecked, LeadFits, LedInto, oneRow, TransformedInto, Transformed, RowTransformed};
 
 // The first words of a row, which stand for themselves.
@@ -142,4 +144,50 @@ pub fn transform_row(
             Done::Done
         }
     }
+}
+
+// Words of a row that is taken up in its middle, at a channel, from the sums so far of its channels; they become those after the words.
+pub fn resume_row(
+    raw: &[u8],
+    first: usize,
+    channels: usize,
+    width: usize,
+    le: bool,
+    out_le: bool,
+    sums: &mut [u64],
+    out: &mut [u8],
+) -> Done
+    ensures { λ r. ⌜ RowResumed (now (raw .entry)) first channels width le «out_le» (now (sums .entry)) (now (out .entry)) r (now (sums .exit)) (now (out .exit)) ⌝ }
+{
+    if !words::width_served(width) {
+        return Done::Refused(Refusal::Unsupported);
+    }
+    if 64 < channels {
+        return Done::Refused(Refusal::Unsupported);
+    }
+    if channels <= first {
+        return Done::Refused(Refusal::Invalid);
+    }
+    if sums.len() < 64 {
+        return Done::Refused(Refusal::Invalid);
+    }
+    if raw.len() % width != 0 {
+        return Done::Refused(Refusal::Invalid);
+    }
+    if out.len() < raw.len() {
+        return Done::Refused(Refusal::OutputTooSmall);
+    }
+    let start: usize = 0;
+    let end = raw.len();
+    resume::run(
+        raw,
+        first,
+        channels,
+        width,
+        le,
+        out_le,
+        sums,
+        &mut out[start..end],
+    );
+    Done::Done
 }
