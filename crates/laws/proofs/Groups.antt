@@ -1,7 +1,7 @@
 -- Items in groups of a size: where an item stands, and which group and which item a place is. Assumes nothing.
 use Prim.Native.Nat.{ℕ, zero, suc, _+_, _-_, _*_, _/_, _%_, _≤_, _<_}
 use mathlib.Core.Path.{_≡_, sym, ap, _∙_}
-use native.Mathlib.Nat.{mul-comm, mul-assoc, mul-mod-left, div-mul-le-self, le-div-iff-mul-le, mul-zero, mul-suc, mul-le-mul-left, mul-le-mul-right, add-mul, one-mul, zero-add, add-zero, div-add-mod, div-add-mod', mod-lt, mul-add-div-right, div-eq-of-lt, mul-add-mod-self-right, mod-add-mod, mod-eq-of-lt, dvd-of-mod-eq-zero, mod-eq-zero-of-dvd, dvd-trans, dvd-mul-left}
+use native.Mathlib.Nat.{mul-comm, mul-assoc, mul-mod-left, div-mul-le-self, le-div-iff-mul-le, mul-zero, mul-suc, mul-le-mul-left, mul-le-mul-right, add-mul, one-mul, zero-add, add-zero, div-add-mod, div-add-mod', mod-lt, add-mul-mod-self-right, mul-pos, div-lt-iff-lt-mul, mul-add-div-right, div-eq-of-lt, mul-add-mod-self-right, mod-add-mod, mod-eq-of-lt, dvd-of-mod-eq-zero, mod-eq-zero-of-dvd, dvd-trans, dvd-mul-left}
 use native.Mathlib.Decide.{decLt}
 use native.Mathlib.Omega.{arith}
 use borrow.Author.Tests.{eq-eqb, ne-eqb}
@@ -87,3 +87,20 @@ apart a b d l e = by (decLt (a / d) (b / d))
     by (no m) =
         let up : b / d ≤ a / d = omega arith in
         absurd (omega (arith, mul-le-mul-right d up, div-add-mod' a d, div-add-mod' b d))
+
+-- groups of groups: which group of its row a place is
+pub group-in-row : (k per m : ℕ) → 0 < per → 0 < m → k % (per * m) / m ≡ k / m % per
+group-in-row k per m some wide =
+    let row = per * m in
+    let r = k % row in
+    let less : r < row = mod-lt k (mul-pos some wide) in
+    let inside : r / m < per = div-lt-iff-lt-mul {k = m} {x = r} {y = per} wide .1 less in
+    let all : k ≡ (k / row * per + r / m) * m + r % m = omega (arith, div-add-mod' k row, div-add-mod' r m, add-mul (k / row * per) (r / m) m, mul-assoc (k / row) per m) in
+    sym (ap (λ (n : ℕ). n / m % per) all ∙ ap (λ (n : ℕ). n % per) (group-of (k / row * per + r / m) m (mod-lt r wide)) ∙ item-of (k / row) per inside)
+
+-- what is left over of a row of groups leaves what all leaves
+pub rest-of-rest : (k per m : ℕ) → k % (per * m) % m ≡ k % m
+rest-of-rest k per m =
+    let row = per * m in
+    let all : k ≡ k % row + k / row * per * m = omega (arith, div-add-mod' k row, mul-assoc (k / row) per m) in
+    sym (ap (λ (n : ℕ). n % m) all ∙ add-mul-mod-self-right (k % row) (k / row * per) m)

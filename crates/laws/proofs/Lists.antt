@@ -2,10 +2,10 @@
 use mathlib.Core.Path.{_≡_, refl, sym, ap, _∙_}
 use mathlib.Core.List.{List, [], _∷_}
 use Prim.Native.Nat.{ℕ, zero, suc, _+_, _-_, _≤_, _<_}
-use native.Mathlib.Decide.{decLt}
+use native.Mathlib.Decide.{decLt, ℕ-discrete}
 use native.Mathlib.Omega.{arith}
 use lib.ListN.{length, getD, take, set, length-set, length-take}
-use lib.Seq.{getD-take, ext-getD}
+use lib.Seq.{getD-take, ext-getD, getD-set-same, getD-set-other}
 use Rattle.answer.specs.Table.{table, filled}
 use Rattle.answer.proofs.Filling.{part, length-part, part-at, length-table, table-at, table-same, filled-more, filled-rest, filled-all}
 
@@ -81,3 +81,17 @@ zeros (suc n) (suc j) = zeros n j
 -- a buffer filled so far takes one element more
 pub filled-one : (f : ℕ → ℕ) (old : List ℕ) {out : List ℕ} (n : ℕ) {v : ℕ} → out ≡ filled n f old → v ≡ f n → n < length old → set out n v ≡ filled (n + 1) f old
 filled-one f old n s is h = rw (is, s) (filled-more n f old h)
+
+-- a table of which one element is set anew
+pub set-table : (n : ℕ) (f g : ℕ → ℕ) (i b : ℕ) → i < n → g i ≡ b → ((j : ℕ) → j < n → (i ≡ j → ⊥) → g j ≡ f j) → set (table n f) i b ≡ table n g
+set-table n f g i b h e rest =
+    ext-getD 0 (set (table n f) i b) (table n g)
+    (length-set (table n f) i b ∙ length-table n f ∙ sym (length-table n g))
+    (λ j l. at j (rw (length-set, length-table) at l))
+  where
+    at : (j : ℕ) → j < n → getD (set (table n f) i b) j 0 ≡ getD (table n g) j 0
+    at j l = by (ℕ-discrete i j)
+      where
+        by : Dec (i ≡ j) → getD (set (table n f) i b) j 0 ≡ getD (table n g) j 0
+        by (yes same) = rw (← same) (getD-set-same (table n f) i b 0 (rw length-table h) ∙ sym e ∙ sym (table-at n g i h))
+        by (no other) = getD-set-other (table n f) i j b 0 (λ back. other (sym back)) ∙ table-at n f j l ∙ sym (rest j l other) ∙ sym (table-at n g j l)

@@ -1,0 +1,44 @@
+-- The check, put together: its loops' ends, and which of its tests decides. Assumes nothing.
+use mathlib.Core.Path.{_≡_, refl, sym, ap, _∙_}
+use mathlib.Core.Bool.{Bool, true, false, not, _&&_}
+use mathlib.Core.List.{List, [], _∷_}
+use Prim.Native.Nat.{ℕ, _+_, _≤_, _<_}
+use native.Mathlib.Decide.{decLt}
+use native.Mathlib.Omega.{arith}
+use borrow.Author.Tests.{lt-ltb, le-ltb, le-leb, lt-leb, not-true}
+use lib.Dec.{ltb, leb, eqb}
+use lib.ListN.{getD}
+use Rattle.answer.specs.Outcome.{Fault, pick, First, here, later, Sound, none, next}
+use Rattle.words.specs.Word.{modulus}
+use Rattle.laws.specs.Turns.{every}
+use Rattle.laws.proofs.Says.{both, up}
+use Rattle.packets.specs.State.{clear, tailRight, sumRight, tailsRight, sumsRight}
+
+pub sound-clear : {fs : List Fault} → Sound fs → clear fs ≡ true
+sound-clear none = refl
+sound-clear (next t s) = rw (t, sound-clear s)
+
+pub first-clear : {fs : List Fault} {n : ℕ} → First fs n → clear fs ≡ false
+first-clear (here t) = rw t
+first-clear (later t r) = rw (t, first-clear r)
+
+pub clear-sound : (fs : List Fault) → clear fs ≡ true → Sound fs
+clear-sound [] e = none
+clear-sound (f ∷ fs) e = let two = both (up (not (f .found))) (up (clear fs)) .tells e in next (not-true (f .found) (two .0)) (clear-sound fs (two .1))
+
+-- a loop that came to its end has tested all
+pub tails-all : (tail : List ℕ) (begun : ℕ) {n : ℕ} {right : Bool} → n ≤ 8 → 8 ≤ n → right ≡ every n (tailRight tail begun) → right ≡ tailsRight tail begun
+unfolding tailsRight
+tails-all tail begun {n} low high e = let all : n ≡ 8 = omega arith in e ∙ ap (λ (m : ℕ). every m (tailRight tail begun)) all
+
+pub sums-all : (sums : List ℕ) (width begun : ℕ) {n : ℕ} {right : Bool} → n ≤ 64 → 64 ≤ n → right ≡ every n (sumRight sums width begun) → right ≡ sumsRight sums width begun
+unfolding sumsRight
+sums-all sums width begun {n} low high e = let all : n ≡ 64 = omega arith in e ∙ ap (λ (m : ℕ). every m (sumRight sums width begun)) all
+
+-- at most the greatest word is below the modulus
+pub sum-below : (x greatest m : ℕ) → greatest + 1 ≡ m → leb x greatest ≡ ltb x m
+sum-below x greatest m e = by (decLt x m)
+  where
+    by : Dec (x < m) → leb x greatest ≡ ltb x m
+    by (yes l) = le-leb x greatest (omega arith) ∙ sym (lt-ltb x m l)
+    by (no g) = lt-leb x greatest (omega arith) ∙ sym (le-ltb x m (omega arith))

@@ -1,0 +1,206 @@
+-- `pieces-convert` and `cut-anywhere`. Assumes nothing.
+use Prim.{Unit}
+use mathlib.Core.Path.{_≡_, refl, sym, ap, _∙_, subst}
+use mathlib.Core.Bool.{Bool, true, false, not}
+use mathlib.Core.List.{List, [], _∷_, _++_, append-assoc}
+use Prim.Native.Nat.{ℕ, zero, suc, _+_, _-_, _*_, _/_, _%_, _≤_, _<_}
+use native.Mathlib.Nat.{zero-mod, zero-div, zero-mul, zero-add, add-assoc, mul-comm, mul-sub, mul-le-mul-right, mod-lt, div-add-mod', div-lt-iff-lt-mul}
+use native.Mathlib.Omega.{arith}
+use borrow.Author.Tests.{le-ltb, eqb-true, eq-eqb, not-false}
+use lib.Dec.{ltb, eqb}
+use lib.Seq.{drop-append-seam}
+use lib.ListN.{length, getD, take, drop, length-append, List·getD-append}
+use Rattle.answer.specs.Outcome.{Outcome, done, refused, unless, Sound, next, none, Promise, doneOutcome}
+use Rattle.answer.specs.Table.{table}
+use Rattle.answer.specs.declared.Done.the-variants as Done-is
+use Rattle.answer.proofs.Filling.{length-table, table-same, table-join, whole}
+use Rattle.answer.proofs.Promised.{writes, passed, done-sound, sound-here, sound-rest, sound-more, sound-done, finishes}
+use Rattle.words.specs.Digits.{digit}
+use Rattle.words.specs.Word.{Bytes, ordered}
+use Rattle.samples.specs.Sample.{Strip, storedAt, sample}
+use Rattle.samples.specs.Promises.{stripFaults, convertFaults, Converted}
+use Rattle.samples.proofs.Strips.{bytes-words, good-checked}
+use Rattle.packets.specs.declared.Packets.{Packets}
+use Rattle.packets.specs.declared.Started.{Started}
+use Rattle.packets.specs.declared.Stepped.{Stepped}
+use Rattle.packets.specs.declared.Plan.{Plan}
+use Rattle.packets.specs.State.{geometry, sampleOf, stateAt, consistent, behind, most}
+use Rattle.packets.specs.Promises.{wroteOutcome, Begun, Took, Closed, closeFaults, pieceFaults, completes, continuedAt, continued, joined, Reached, Streamed, opened, fed}
+use Rattle.laws.proofs.Groups.{more-groups}
+use Rattle.packets.proofs.Bytewise.{Sane}
+use Rattle.packets.proofs.Agree.{sample-agrees}
+use Rattle.packets.proofs.Behind.{Passed, sane-sound}
+use Rattle.packets.proofs.Behind as B
+use Rattle.packets.proofs.Future.{continued-any, continued-at-any}
+use Rattle.packets.proofs.Reaches.{History, history-passes, history-shaped, history, begun-state, bytes-join, took-state, took-fits}
+
+-- what is written of a strip when its first k bytes have come: its whole samples, stored
+abbrev pub storedUpto : Plan → List ℕ → ℕ → List ℕ
+storedUpto p s k = table (k / p .width * p .width) (storedAt (p .width) (p .«out_le») (sampleOf p s))
+
+-- a strip's whole samples stay when it goes on
+pub stored-stays : (p : Plan) → Sane p → (s t : List ℕ) → storedUpto p (s ++ t) (length s) ≡ storedUpto p s (length s)
+stored-stays p is s t =
+    let W = p .width in
+    table-same (length s / W * W) _ _ (λ i h.
+    ap (digit 256 (ordered (p .«out_le») W (i % W)))
+    (sample-agrees p is (s ++ t) s (length s) (λ j l. List·getD-append s t 0 j l) (i / W) (div-lt-iff-lt-mul {k = W} {x = i} {y = length s / W} (is .good .wide) .1 h)))
+
+-- what a piece writes, beside a history of its state
+module _ (st : Packets) (h : History st) (piece : List ℕ) where
+  abbrev p : Plan
+  p = st .plan
+
+  abbrev W : ℕ
+  W = st .plan .width
+
+  abbrev k : ℕ
+  k = st .received
+
+  abbrev written : List ℕ
+  written = table (completes st (length piece)) (continuedAt st piece)
+
+  same : Sane p
+  same = sane-sound p (h .sound)
+
+  ends : k / W * W + completes st (length piece) ≡ (k + length piece) / W * W
+  ends =
+      let a = k / W in
+      let b = (k + length piece) / W in
+      let more : a ≤ b = more-groups k (k + length piece) W (same .good .wide) (omega arith) in
+      omega (arith, mul-comm (b - a) W, mul-sub W b a, mul-comm W b, mul-comm W a, mul-le-mul-right W more)
+
+  -- put behind what was written of the history, it is what is written of the whole
+  pub written-on : storedUpto p (h .came) k ++ written ≡ storedUpto p (h .came ++ piece) (k + length piece)
+  written-on =
+      let f = storedAt W (st .plan .«out_le») (sampleOf p (h .came ++ piece)) in
+      let front : storedUpto p (h .came) k ≡ table (k / W * W) f = sym (rw (h .long) at (stored-stays p same (h .came) piece)) in
+      let back : written ≡ table (completes st (length piece)) (λ i. f (k / W * W + i)) =
+      table-same (completes st (length piece)) (continuedAt st piece) (λ i. f (k / W * W + i)) (continued-at-any st (B.passed st (history-passes st h)) (history-shaped st h) (h .came) (h .leads) (h .long) piece) in
+      rw (front, back) (table-join (k / W * W) (completes st (length piece)) f ∙ ap (λ (n : ℕ). table n f) ends)
+
+-- what a piece writes in a state
+abbrev pub writtenBy : Packets → List ℕ → List ℕ
+writtenBy st piece = table (completes st (length piece)) (continuedAt st piece)
+
+-- a strip s, and a piece after it
+module _ (p : Plan) (sound : Sound (stripFaults 0 (geometry p))) where
+  after-state : (s : List ℕ) → Bytes s → length s ≤ most → (piece : List ℕ) → continued (stateAt p s (length s)) piece ≡ stateAt p (s ++ piece) (length (s ++ piece))
+  unfolding stateAt
+  after-state s b short piece =
+      let st = stateAt p s (length s) in
+      let h : History st = record { came = s; bytes = b; sound = sound; short = short; long = refl; leads = refl } in
+      continued-any st (B.passed st (history-passes st h)) (history-shaped st h) s refl refl piece ∙ ap (stateAt p (s ++ piece)) (sym (length-append s piece))
+
+  after-written : (s : List ℕ) → Bytes s → length s ≤ most → (piece : List ℕ) → storedUpto p s (length s) ++ writtenBy (stateAt p s (length s)) piece ≡ storedUpto p (s ++ piece) (length (s ++ piece))
+  unfolding stateAt
+  after-written s b short piece =
+      let st = stateAt p s (length s) in
+      let h : History st = record { came = s; bytes = b; sound = sound; short = short; long = refl; leads = refl } in
+      written-on st h piece ∙ ap (storedUpto p (s ++ piece)) (sym (length-append s piece))
+
+  module _ (s : List ℕ) (bytes : Bytes s) (a : List ℕ) (more : Bytes a) (short : length s + length a ≤ most) (b : List ℕ) where
+    joined-bytes : Bytes (s ++ a)
+    joined-bytes = bytes-join s a bytes more
+
+    less : length s ≤ most
+    less = omega arith
+
+    both-short : length (s ++ a) ≤ most
+    both-short = rw (length-append s a) short
+
+    cut-state : continued (continued (stateAt p s (length s)) a) b ≡ continued (stateAt p s (length s)) (a ++ b)
+    cut-state =
+        rw (after-state s bytes less a, after-state (s ++ a) joined-bytes both-short b, after-state s bytes less (a ++ b), append-assoc s a b)
+
+    cut-written : writtenBy (stateAt p s (length s)) (a ++ b) ≡ writtenBy (stateAt p s (length s)) a ++ writtenBy (continued (stateAt p s (length s)) a) b
+    cut-written =
+        let x = storedUpto p s (length s) in
+        let st = stateAt p s (length s) in
+        let one : x ++ writtenBy st (a ++ b) ≡ storedUpto p (s ++ (a ++ b)) (length (s ++ (a ++ b))) = after-written s bytes less (a ++ b) in
+        let two : x ++ (writtenBy st a ++ writtenBy (continued st a) b) ≡ storedUpto p ((s ++ a) ++ b) (length ((s ++ a) ++ b)) =
+        sym (append-assoc x (writtenBy st a) (writtenBy (continued st a) b))
+        ∙ rw (after-written s bytes less a, after-state s bytes less a) (after-written (s ++ a) joined-bytes both-short b) in
+        sym (drop-append-seam x (writtenBy st (a ++ b)))
+        ∙ ap (drop (length x)) (one ∙ ap (λ (l : List ℕ). storedUpto p l (length l)) (sym (append-assoc s a b)) ∙ sym two)
+        ∙ drop-append-seam x (writtenBy st a ++ writtenBy (continued st a) b)
+
+-- what a call that did not refuse wrote
+pub took-written : {st : Packets} {piece old new : List ℕ} {r : Stepped} {n : ℕ} → Took st piece old r new → wroteOutcome (r .answer) ≡ done n → take n new ≡ writtenBy st piece
+took-written {st} {piece} {old} {new} {r} {n} t e =
+    let m = completes st (length piece) in
+    let all : unless (pieceFaults st piece old) m ≡ done m = sound-done m (took-state t e .0) in
+    let o : done m ≡ done n = sym all ∙ sym (t .writes .answers) ∙ e in
+    let same : m ≡ n = cc in
+    let long : length (writtenBy st piece) ≡ n = length-table m (continuedAt st piece) ∙ same in
+    rw long at (writes n new (subst (λ (x : Outcome ℕ). Promise (unless (pieceFaults st piece old) m) (writtenBy st piece) old x new) e (t .writes)))
+
+received-is : (p : Plan) (s : List ℕ) (st : Packets) → st ≡ stateAt p s (length s) → st .received ≡ length s
+unfolding stateAt
+received-is p s st e = ap (λ (x : Packets). x .received) e
+
+rows-whole : (p : Plan) (s : List ℕ) (st : Packets) → st ≡ stateAt p s (length s) → st .received % st .plan .«row_bytes» ≡ 0 → length s % p .«row_bytes» ≡ 0
+unfolding stateAt
+rows-whole p s st e h = rw e at h
+
+-- a piece cut in two gives the same state and the same bytes
+pub cut-anywhere : {st : Packets} {a b old new old₁ new₁ old₂ new₂ : List ℕ} {r r₁ r₂ : Stepped} {n n₁ n₂ : ℕ} → Reached st → Bytes a → Took st (a ++ b) old r new → wroteOutcome (r .answer) ≡ done n → Took st a old₁ r₁ new₁ → wroteOutcome (r₁ .answer) ≡ done n₁ → Took (r₁ .state) b old₂ r₂ new₂ → wroteOutcome (r₂ .answer) ≡ done n₂ → (r .state ≡ r₂ .state) × (take n new ≡ take n₁ new₁ ++ take n₂ new₂)
+cut-anywhere {st} {a} {b} {old} {new} {old₁} {new₁} {old₂} {new₂} {r} {r₁} {r₂} {n} {n₁} {n₂} reached bytes t e t₁ e₁ t₂ e₂ =
+    let h = history reached in
+    let p = st .plan in
+    let s = h .came in
+    let is : st ≡ stateAt p s (length s) = sym (h .leads) ∙ ap (stateAt p s) (sym (h .long)) in
+    let fits : length s + length a ≤ most = rw (h .long) (took-fits st a old₁ (took-state t₁ e₁ .0)) in
+    let state₁ = took-state t₁ e₁ .1 in
+    let cut : continued (continued st a) b ≡ continued st (a ++ b) = subst (λ (x : Packets). continued (continued x a) b ≡ continued x (a ++ b)) (sym is) (cut-state p (h .sound) s (h .bytes) a bytes fits b) in
+    let wrote : writtenBy st (a ++ b) ≡ writtenBy st a ++ writtenBy (continued st a) b = subst (λ (x : Packets). writtenBy x (a ++ b) ≡ writtenBy x a ++ writtenBy (continued x a) b) (sym is) (cut-written p (h .sound) s (h .bytes) a bytes fits b) in (
+      took-state t e .1 ∙ sym cut ∙ ap (λ (x : Packets). continued x b) (sym state₁) ∙ sym (took-state t₂ e₂ .1),
+      took-written t e ∙ wrote ∙ rw (took-written t₁ e₁, took-written t₂ e₂, state₁),
+    )
+
+-- what has come and been written so far
+pub record SoFar (p : Plan) (s : List ℕ) (st : Packets) (out : List ℕ) : Type 0 where
+  pub sound : Sound (stripFaults 0 (geometry p))
+  pub bytes : Bytes s
+  pub short : length s ≤ most
+  pub state : st ≡ stateAt p s (length s)
+  pub written : out ≡ storedUpto p s (length s)
+
+-- a strip that is still open: its whole samples so far are written
+pub pieces-so-far : {p : Plan} {pieces : List (List ℕ)} {st : Packets} {out : List ℕ} → Streamed p pieces st out → SoFar p (joined pieces) st out
+pieces-so-far {p} (opened b e) =
+    let is = begun-state b e in
+    record { sound = is .0; bytes = λ i. omega arith; short = omega arith; state = is .1; written = rw (zero-div (p .width), zero-mul (p .width)) }
+pieces-so-far {p} (fed {pieces} {st} {out} {piece} {old} {new} {r} {n} before bytes t e) =
+    let far = pieces-so-far before in
+    let s = joined pieces in
+    let at = stateAt p s (length s) in
+    let fits : st .received + length piece ≤ most = took-fits st piece old (took-state t e .0) in
+    let here : st .received ≡ length s = received-is p s st (far .state) in
+    record {
+      sound = far .sound;
+      bytes = bytes-join s piece (far .bytes) bytes;
+      short = rw (length-append s piece, ← here) fits;
+      state = took-state t e .1 ∙ ap (λ (x : Packets). continued x piece) (far .state) ∙ after-state p (far .sound) s (far .bytes) (far .short) piece;
+      written = rw (took-written t e, far .written, far .state) (after-written p (far .sound) s (far .bytes) (far .short) piece);
+    }
+
+-- the strip check of a strip that is whole rows
+pub whole-sound : (n : ℕ) (g : Strip) → n % g .row ≡ 0 → Sound (stripFaults 0 g) → Sound (stripFaults n g)
+whole-sound n g e (next a (next b (next c (next d (next f rest))))) = next a (next b (next c (next d (next f (next (ap not (eq-eqb (n % g .row) 0 e)) none)))))
+
+-- a strip that closes well: what was written, put end to end, is what `convert` writes of the pieces put end to end
+pub pieces-convert : {p : Plan} {pieces : List (List ℕ)} {st : Packets} {out : List ℕ} → Streamed p pieces st out → Closed st Done-is.Done → (old : List ℕ) → length (joined pieces) ≤ length old → Converted (joined pieces) (geometry p) (p .predict) (p .le) (p .«out_le») old Done-is.Done (out ++ drop (length out) old)
+pieces-convert {p} {pieces} {st} {out} streamed closed old room =
+    let far = pieces-so-far streamed in
+    let s = joined pieces in
+    let g = geometry p in
+    let rest = sound-here (sound-rest (passed (closeFaults st) Done-is.Done closed refl)) in
+    let rows : length s % g .row ≡ 0 = rows-whole p s st (far .state) (eqb-true (st .received % st .plan .«row_bytes») 0 (not-false (eqb (st .received % st .plan .«row_bytes») 0) rest)) in
+    let sound = whole-sound (length s) g rows (far .sound) in
+    let all : length s / g .width * g .width ≡ length s = omega (arith, div-add-mod' (length s) (g .width), bytes-words (length s) g (good-checked (length s) g sound)) in
+    let f = storedAt (g .width) (p .«out_le») (sampleOf p s) in
+    let is : out ≡ table (length s) f = far .written ∙ ap (λ (n : ℕ). table n f) all in
+    finishes (convertFaults s g old) tt (length s) f old (out ++ drop (length out) old)
+    (sound-more sound (next (le-ltb (length old) (length s) room) none))
+    (rw (is, length-table (length s) f))

@@ -1,0 +1,213 @@
+// The bytes of a piece: the word that was cut is finished, then the row, then come whole rows, a begun row and a begun word.
+use crate::Plan;
+ghost use mathlib.Core.Path.{_≡_};
+ghost use mathlib.Core.Bool.{true};
+ghost use Prim.Native.Nat.{_/_, _%_};
+ghost use lib.ListN.{getD};
+ghost use Rattle.words.specs.Promises.{served};
+ghost use Rattle.packets.specs.Promises.{noTail};
+ghost use Rattle.packets.specs.Steps.{Cleared, HoldFits, Held, Begins, RowWords, RowsWords, Predicted, WordsFeed, WordsFed, FromWord, BytesFeed, BytesFed};
+
+// The words of so many bytes, and the bytes past them. With a constant width neither is a division.
+pub(crate) fn whole(n: usize, width: usize) -> usize
+    requires { ⌜ served width ≡ true ⌝ }
+    ensures { λ r. ⌜ r ≡ n / width ⌝ }
+{
+    if width == 1 {
+        n
+    } else if width == 2 {
+        n / 2
+    } else if width == 4 {
+        n / 4
+    } else {
+        n / 8
+    }
+}
+
+pub(crate) fn past(n: usize, width: usize) -> usize
+    requires { ⌜ served width ≡ true ⌝ }
+    ensures { λ r. ⌜ r ≡ n % width ⌝ }
+{
+    if width == 1 {
+        0
+    } else if width == 2 {
+        n % 2
+    } else if width == 4 {
+        n % 4
+    } else {
+        n % 8
+    }
+}
+
+fn clear(sums: &mut [u64])
+    ensures { λ r. ⌜ Cleared (now (sums .entry)) (now (sums .exit)) ⌝ }
+{
+    let mut i: usize = 0;
+    while i < sums.len() {
+        sums[i] = 0;
+        i += 1;
+    }
+}
+
+// Bytes that are put behind those of the unfinished word.
+fn hold(bytes: &[u8], fill: usize, tail: &mut [u8])
+    requires { ⌜ HoldFits (now bytes) fill (now tail) ⌝ }
+    ensures { λ r. ⌜ Held (now (bytes .entry)) fill (now (tail .entry)) (now (tail .exit)) ⌝ }
+{
+    let mut i: usize = 0;
+    while i < bytes.len() {
+        tail[fill + i] = bytes[i];
+        i += 1;
+    }
+}
+
+fn byte_or_none(bytes: &[u8], i: usize) -> u8
+    ensures { λ r. ⌜ r ≡ getD (now (bytes .entry)) i 0 ⌝ }
+{
+    if i < bytes.len() { bytes[i] } else { 0 }
+}
+
+// The bytes of a begun word, and 0 past them.
+fn begin(bytes: &[u8], tail: &mut [u8])
+    ensures { λ r. ⌜ Begins (now (bytes .entry)) (now (tail .entry)) (now (tail .exit)) ⌝ }
+{
+    let mut i: usize = 0;
+    while i < tail.len() {
+        tail[i] = byte_or_none(bytes, i);
+        i += 1;
+    }
+}
+
+// Words of one row; at its end the sums begin anew.
+fn in_row(plan: Plan, received: usize, raw: &[u8], sums: &mut [u64], out: &mut [u8])
+    requires { ⌜ RowWords plan received (now raw) (now sums) (now out) ⌝ }
+    ensures { λ r. ⌜ WordsFed plan received (now (raw .entry)) (now (sums .entry)) (now (out .entry)) (now (sums .exit)) (now (out .exit)) ⌝ }
+{
+    let place = received % plan.row_bytes;
+    let first = whole(place, plan.width) % plan.channels;
+    rows::resume_row(
+        raw,
+        first,
+        plan.channels,
+        plan.width,
+        plan.le,
+        plan.out_le,
+        sums,
+        out,
+    );
+    if place + raw.len() == plan.row_bytes {
+        clear(sums)
+    }
+}
+
+// Words from a row's start on: whole rows, and those of a begun row.
+fn from_row(plan: Plan, received: usize, raw: &[u8], sums: &mut [u64], out: &mut [u8])
+    requires { ⌜ RowsWords plan received (now raw) (now sums) (now out) ⌝ }
+    ensures { λ r. ⌜ WordsFed plan received (now (raw .entry)) (now (sums .entry)) (now (out .entry)) (now (sums .exit)) (now (out .exit)) ⌝ }
+{
+    let start: usize = 0;
+    let rows = raw.len() - raw.len() % plan.row_bytes;
+    strips::convert(
+        &raw[start..rows],
+        plan.row_bytes,
+        plan.channels,
+        plan.width,
+        plan.le,
+        plan.predict,
+        plan.out_le,
+        &mut out[start..rows],
+    );
+    in_row(plan, received + rows, &raw[rows..], sums, &mut out[rows..])
+}
+
+// Words with prediction: the row is finished first.
+fn predicted(plan: Plan, received: usize, raw: &[u8], sums: &mut [u64], out: &mut [u8])
+    requires { ⌜ Predicted plan received (now raw) (now sums) (now out) ⌝ }
+    ensures { λ r. ⌜ WordsFed plan received (now (raw .entry)) (now (sums .entry)) (now (out .entry)) (now (sums .exit)) (now (out .exit)) ⌝ }
+{
+    let place = received % plan.row_bytes;
+    if place == 0 {
+        return from_row(plan, received, raw, sums, out);
+    }
+    let left = plan.row_bytes - place;
+    if raw.len() <= left {
+        return in_row(plan, received, raw, sums, out);
+    }
+    let start: usize = 0;
+    in_row(plan, received, &raw[start..left], sums, &mut out[start..left]);
+    from_row(plan, received + left, &raw[left..], sums, &mut out[left..])
+}
+
+// Words: without prediction they need no row.
+fn words(plan: Plan, received: usize, raw: &[u8], sums: &mut [u64], out: &mut [u8])
+    requires { ⌜ WordsFeed plan received (now raw) (now sums) (now out) ⌝ }
+    ensures { λ r. ⌜ WordsFed plan received (now (raw .entry)) (now (sums .entry)) (now (out .entry)) (now (sums .exit)) (now (out .exit)) ⌝ }
+{
+    if plan.predict {
+        return predicted(plan, received, raw, sums, out);
+    }
+    samples::reorder(raw, plan.width, plan.le, plan.out_le, out);
+}
+
+// Bytes from a word's start on.
+fn from_word(
+    plan: Plan,
+    received: usize,
+    bytes: &[u8],
+    tail: &mut [u8],
+    sums: &mut [u64],
+    out: &mut [u8],
+)
+    requires { ⌜ FromWord plan received (now bytes) (now tail) (now sums) (now out) ⌝ }
+    ensures { λ r. ⌜ BytesFed plan received (now (bytes .entry)) noTail (now (sums .entry)) (now (out .entry)) (now (tail .exit)) (now (sums .exit)) (now (out .exit)) ⌝ }
+{
+    let start: usize = 0;
+    let end = bytes.len() - past(bytes.len(), plan.width);
+    words(
+        plan,
+        received,
+        &bytes[start..end],
+        sums,
+        &mut out[start..end],
+    );
+    begin(&bytes[end..], tail)
+}
+
+pub(crate) fn feed(
+    plan: Plan,
+    received: usize,
+    bytes: &[u8],
+    tail: &mut [u8],
+    sums: &mut [u64],
+    out: &mut [u8],
+)
+    requires { ⌜ BytesFeed plan received (now bytes) (now tail) (now sums) (now out) ⌝ }
+    ensures { λ r. ⌜ BytesFed plan received (now (bytes .entry)) (now (tail .entry)) (now (sums .entry)) (now (out .entry)) (now (tail .exit)) (now (sums .exit)) (now (out .exit)) ⌝ }
+{
+    let width = plan.width;
+    let fill = past(received, width);
+    if fill == 0 {
+        return from_word(plan, received, bytes, tail, sums, out);
+    }
+    let head = width - fill;
+    if bytes.len() < head {
+        return hold(bytes, fill, tail);
+    }
+    let start: usize = 0;
+    hold(&bytes[start..head], fill, tail);
+    words(
+        plan,
+        received - fill,
+        &tail[start..width],
+        sums,
+        &mut out[start..width],
+    );
+    from_word(
+        plan,
+        received + head,
+        &bytes[head..],
+        tail,
+        sums,
+        &mut out[width..],
+    )
+}
