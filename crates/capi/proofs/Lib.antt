@@ -2,3 +2,4 @@ pub mod Telling
 pub mod OnLayouts
 pub mod Flags
 pub mod Determined
+pub mod Standing

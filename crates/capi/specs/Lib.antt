@@ -1,3 +1,4 @@
 pub mod Told
 pub mod OnLayouts
 pub mod OnPages
+pub mod OnStates

@@ -6,6 +6,7 @@ use answer::SampleAt;
 
 mod layouts;
 mod pages;
+mod states;
 
 ghost use mathlib.Core.Path.{_≡_};
 ghost use Rattle.answer.specs.Outcome.{doneOutcome};

@@ -10,7 +10,7 @@ ghost use Rattle.capi.specs.Told.{Told, Lent};
 ghost use Rattle.capi.specs.OnPages.{flagOf, numbersOf, foundNumbers, placeNumbers};
 
 // A flag as a number.
-fn flag(on: bool) -> usize
+pub(crate) fn flag(on: bool) -> usize
     ensures { λ r. ⌜ r ≡ flagOf on ⌝ }
 {
     match on {

@@ -32,7 +32,7 @@ use Rattle.packets.proofs.Agree.{sample-agrees}
 use Rattle.packets.proofs.Behind.{Passed, sane-sound}
 use Rattle.packets.proofs.Behind as B
 use Rattle.packets.proofs.Future.{continued-any, continued-at-any}
-use Rattle.packets.proofs.Reaches.{History, history-passes, history-shaped, history, begun-state, bytes-join, took-state, took-fits}
+use Rattle.packets.proofs.Reaches.{History, history-on, history-passes, history-shaped, history, begun-state, bytes-join, took-state, took-fits}
 
 -- what is written of a strip when its first k bytes have come: its whole samples, stored
 abbrev pub storedUpto : Plan → List ℕ → ℕ → List ℕ
@@ -143,9 +143,9 @@ rows-whole : (p : Plan) (s : List ℕ) (st : Packets) → st ≡ stateAt p s (le
 unfolding stateAt
 rows-whole p s st e h = rw e at h
 
--- a piece cut in two gives the same state and the same bytes
-pub cut-anywhere : {st : Packets} {a b old new old₁ new₁ old₂ new₂ : List ℕ} {r r₁ r₂ : Stepped} {n n₁ n₂ : ℕ} → Reached st → Bytes a → Took st (a ++ b) old r new → wroteOutcome (r .answer) ≡ done n → Took st a old₁ r₁ new₁ → wroteOutcome (r₁ .answer) ≡ done n₁ → Took (r₁ .state) b old₂ r₂ new₂ → wroteOutcome (r₂ .answer) ≡ done n₂ → (r .state ≡ r₂ .state) × (take n new ≡ take n₁ new₁ ++ take n₂ new₂)
-cut-anywhere {st} {a} {b} {old} {new} {old₁} {new₁} {old₂} {new₂} {r} {r₁} {r₂} {n} {n₁} {n₂} reached bytes t e t₁ e₁ t₂ e₂ =
+-- of three calls that did not refuse
+cut-done : {st : Packets} {a b old new old₁ new₁ old₂ new₂ : List ℕ} {r r₁ r₂ : Stepped} {n n₁ n₂ : ℕ} → Reached st → Bytes a → Took st (a ++ b) old r new → wroteOutcome (r .answer) ≡ done n → Took st a old₁ r₁ new₁ → wroteOutcome (r₁ .answer) ≡ done n₁ → Took (r₁ .state) b old₂ r₂ new₂ → wroteOutcome (r₂ .answer) ≡ done n₂ → (r .state ≡ r₂ .state) × (take n new ≡ take n₁ new₁ ++ take n₂ new₂)
+cut-done {st} {a} {b} {old} {new} {old₁} {new₁} {old₂} {new₂} {r} {r₁} {r₂} {n} {n₁} {n₂} reached bytes t e t₁ e₁ t₂ e₂ =
     let h = history reached in
     let p = st .plan in
     let s = h .came in
@@ -157,6 +157,38 @@ cut-anywhere {st} {a} {b} {old} {new} {old₁} {new₁} {old₂} {new₂} {r} {r
       took-state t e .1 ∙ sym cut ∙ ap (λ (x : Packets). continued x b) (sym state₁) ∙ sym (took-state t₂ e₂ .1),
       took-written t e ∙ wrote ∙ rw (took-written t₁ e₁, took-written t₂ e₂, state₁),
     )
+
+-- a call on a state that passes the check, within the limit and with room, does not refuse
+pub taken : {st : Packets} {piece old new : List ℕ} {r : Stepped} → Took st piece old r new → consistent st ≡ true → st .received + length piece ≤ most → completes st (length piece) ≤ length old → wroteOutcome (r .answer) ≡ done (completes st (length piece))
+taken {st} {piece} {old} t e fits room =
+    t .writes .answers
+    ∙ sound-done (completes st (length piece)) (next (ap not e) (next (le-ltb most (st .received + length piece) fits) (next (le-ltb (length old) (completes st (length piece)) room) none)))
+
+-- a piece and, in its place, its two parts: none of the calls refuses, and they come to the same state and the same bytes
+pub record SameCut (st : Packets) (a b new new₁ new₂ : List ℕ) (r r₁ r₂ : Stepped) : Type 0 where
+  pub whole-taken : wroteOutcome (r .answer) ≡ done (completes st (length (a ++ b)))
+  pub first-taken : wroteOutcome (r₁ .answer) ≡ done (completes st (length a))
+  pub second-taken : wroteOutcome (r₂ .answer) ≡ done (completes (r₁ .state) (length b))
+  pub same-state : r .state ≡ r₂ .state
+  pub same-bytes : take (completes st (length (a ++ b))) new ≡ take (completes st (length a)) new₁ ++ take (completes (r₁ .state) (length b)) new₂
+
+later-fits : (st x : Packets) (a b : List ℕ) → x ≡ continued st a → st .received + length (a ++ b) ≤ most → x .received + length b ≤ most
+unfolding stateAt
+later-fits st x a b e fits = omega (arith, ap (λ (y : Packets). y .received) e, length-append a b)
+
+-- a piece cut in two, within the limit and with room
+pub cut-anywhere : {st : Packets} {a b old new old₁ new₁ old₂ new₂ : List ℕ} {r r₁ r₂ : Stepped} → Reached st → Bytes a → st .received + length (a ++ b) ≤ most → Took st (a ++ b) old r new → completes st (length (a ++ b)) ≤ length old → Took st a old₁ r₁ new₁ → completes st (length a) ≤ length old₁ → Took (r₁ .state) b old₂ r₂ new₂ → completes (r₁ .state) (length b) ≤ length old₂ → SameCut st a b new new₁ new₂ r r₁ r₂
+cut-anywhere {st} {a} {b} reached bytes fits t room t₁ room₁ t₂ room₂ =
+    let h = history reached in
+    let passes = history-passes st h in
+    let first-fits : st .received + length a ≤ most = omega (arith, length-append a b) in
+    let e = taken t passes fits room in
+    let e₁ = taken t₁ passes first-fits room₁ in
+    let there = took-state t₁ e₁ .1 in
+    let next-passes = ap consistent there ∙ history-passes _ (history-on st h a bytes first-fits) in
+    let e₂ = taken t₂ next-passes (later-fits st _ a b there fits) room₂ in
+    let same = cut-done reached bytes t e t₁ e₁ t₂ e₂ in
+    record { whole-taken = e; first-taken = e₁; second-taken = e₂; same-state = same .0; same-bytes = same .1 }
 
 -- what has come and been written so far
 pub record SoFar (p : Plan) (s : List ℕ) (st : Packets) (out : List ℕ) : Type 0 where
