@@ -1,10 +1,12 @@
 -- Each promise of this crate allows one number, one content of the buffer and one lent value: it names an answer, and the promise of the
 -- crate that answers allows one. Assumes nothing.
 use Prim.Native.Nat.{ℕ}
-use mathlib.Core.Path.{_≡_, refl, sym, ap, _∙_}
+use mathlib.Core.Path.{_≡_, refl, sym, ap, _∙_, subst}
 use mathlib.Core.Bool.{Bool, true, false}
 use mathlib.Core.List.{List}
+use native.Mathlib.Decide.{ℕ-discrete}
 use Rattle.answer.specs.Outcome.{Outcome, doneOutcome}
+use Rattle.answer.specs.declared.Done.{Done}
 use Rattle.words.specs.Promises.{ReadWord, LoadedWord, wordOutcome, loadedOutcome}
 use Rattle.words.proofs.Determined.{read-word-determined, load-determined}
 use Rattle.samples.specs.Sample.{Strip}
@@ -29,6 +31,13 @@ use Rattle.directory.proofs.Determined.{read-directory-determined, strip-place-
 use Rattle.capi.specs.OnPages.{foundNumbers, placeNumbers}
 use Rattle.files.specs.File.{writtenOutcome, Measured, FileWritten}
 use Rattle.files.proofs.Determined.{file-length-determined, write-file-determined}
+use Rattle.packets.specs.declared.Plan.{Plan}
+use Rattle.packets.specs.declared.Started.{Started}
+use Rattle.packets.specs.declared.Stepped.{Stepped}
+use Rattle.packets.specs.Promises.{wroteOutcome}
+use Rattle.packets.proofs.Determined.{start-determined, piece-determined, close-determined}
+use Rattle.capi.specs.OnStates.{stateOf, strays, Stands, StartTold, PieceTold, PieceOf, CloseOf}
+use Rattle.capi.proofs.Standing.{Numbers, stands-once}
 use Rattle.capi.specs.Told.{status, lent, derivedOutcome, Told, Lent}
 use Rattle.capi.specs.OnLayouts.{fieldsOf, flagged, OnLayout, RefusedUnserved}
 
@@ -114,3 +123,42 @@ module _ (r s : ℕ) where
 
 pub hamrisk-reverse-bits-determined : (old x y : List ℕ) → Reversed old x → Reversed old y → x ≡ y
 hamrisk-reverse-bits-determined = reverse-bits-determined
+
+-- the calls on packets; what is lent as a state is 80 numbers of 64 bits
+pub hamrisk-packets-start-determined : (p : Plan) (r s : ℕ) (x y : List ℕ) → Numbers x → Numbers y → StartTold p r x → StartTold p s y → (r ≡ s) × (x ≡ y)
+hamrisk-packets-start-determined p r s x y nx ny t u =
+    let one = start-determined p (t .answer) (u .answer) (t .allowed) (u .allowed) in
+    (t .number-is ∙ ap (λ (a : Started). status (doneOutcome (a .answer))) one ∙ sym (u .number-is), stands-once nx ny (t .stands) (subst (λ (a : Started). Stands (a .state) y) (sym one) (u .stands)))
+
+module _ (state piece old : List ℕ) (written r s m n : ℕ) (v w x y : List ℕ) (nv : Numbers v) (nw : Numbers w) where
+  piece-once : PieceTold state piece old written r v x m → PieceTold state piece old written s w y n → (r ≡ s) × ((v ≡ w) × ((x ≡ y) × (m ≡ n)))
+  piece-once t u =
+      let one = piece-determined (stateOf state) piece old (t .answer) (u .answer) x y (t .allowed) (u .allowed) in
+      let same : r ≡ s = t .number-is ∙ ap (λ (a : Stepped). status (wroteOutcome (a .answer))) (one .0) ∙ sym (u .number-is) in
+      (same, (by same (ℕ-discrete r 0), (one .1, t .written-is ∙ ap (λ (a : Stepped). lent (wroteOutcome (a .answer)) written) (one .0) ∙ sym (u .written-is))))
+    where
+      by : r ≡ s → Dec (r ≡ 0) → v ≡ w
+      by same (yes z) =
+          let one = piece-determined (stateOf state) piece old (t .answer) (u .answer) x y (t .allowed) (u .allowed) .0 in
+          stands-once nv nw (t .goes-on z) (subst (λ (a : Stepped). Stands (a .state) w) (sym one) (u .goes-on (sym same ∙ z)))
+      by same (no z) = t .stays z ∙ sym (u .stays (λ e. z (same ∙ e)))
+
+  pub hamrisk-packets-piece-determined : PieceOf state piece old written r v x m → PieceOf state piece old written s w y n → (r ≡ s) × ((v ≡ w) × ((x ≡ y) × (m ≡ n)))
+  hamrisk-packets-piece-determined p q = by (strays state) refl
+    where
+      by : (b : Bool) → strays state ≡ b → (r ≡ s) × ((v ≡ w) × ((x ≡ y) × (m ≡ n)))
+      by true e =
+          let a = p .strayed e in
+          let b = q .strayed e in
+          (a .0 ∙ sym (b .0), (a .1 .0 ∙ sym (b .1 .0), (a .1 .1 .0 ∙ sym (b .1 .1 .0), a .1 .1 .1 ∙ sym (b .1 .1 .1))))
+      by false e = piece-once (p .kept e) (q .kept e)
+
+pub hamrisk-packets-close-determined : (state : List ℕ) (r s : ℕ) → CloseOf state r → CloseOf state s → r ≡ s
+hamrisk-packets-close-determined state r s p q = by (strays state) refl
+  where
+    by : (b : Bool) → strays state ≡ b → r ≡ s
+    by true e = p .strayed e ∙ sym (q .strayed e)
+    by false e =
+        let t = p .kept e in
+        let u = q .kept e in
+        t .number-is ∙ ap (λ (a : Done). status (doneOutcome a)) (close-determined (stateOf state) (t .answer) (u .answer) (t .allowed) (u .allowed)) ∙ sym (u .number-is)

@@ -1,5 +1,5 @@
 pub mod Telling
 pub mod OnLayouts
 pub mod Flags
-pub mod Determined
 pub mod Standing
+pub mod Determined

@@ -2,12 +2,15 @@
 use mathlib.Core.Path.{_≡_, refl, sym, ap, _∙_, subst}
 use mathlib.Core.Bool.{Bool, true, false, not, _||_, _&&_}
 use mathlib.Core.List.{List, [], _∷_}
-use Prim.Native.Nat.{ℕ, zero, suc, _+_, _*_, _/_, _%_, _^_, _≤_, _<_}
+use Prim.Native.Nat.{ℕ, zero, suc, _+_, _-_, _^_, _≤_, _<_}
+use native.Mathlib.Nat.{mod-eq-of-lt}
+use native.Mathlib.Decide.{decLt, ℕ-discrete}
 use native.Mathlib.Omega.{arith}
 use native.Mathlib.Numerals.{add-one}
-use borrow.Author.Tests.{lt-ltb, le-ltb, eq-eqb}
+use borrow.Author.Tests.{eq-eqb, ne-eqb, eqb-true, ltb-false, not-false}
 use lib.Dec.{ltb, eqb}
-use lib.ListN.{length, getD, set}
+use lib.ListN.{length, getD}
+use lib.Seq.{ext-getD}
 use Rattle.answer.specs.Outcome.{number}
 use Rattle.answer.specs.declared.Refusal.{Refusal}
 use Rattle.answer.specs.declared.Refusal.the-variants.{Unsupported, Invalid, Truncated, OutputTooSmall, Limit}
@@ -15,10 +18,11 @@ use Rattle.answer.specs.Table.{table, stores}
 use Rattle.answer.proofs.Filling.{length-table, table-at, table-same, table-self, length-stores, stores-at, stores-rest}
 use Rattle.words.specs.Digits.{digit, value}
 use Rattle.words.specs.Word.{Bytes}
-use Rattle.words.proofs.Digits.{digit-value}
+use Rattle.words.proofs.Digits.{digit-value, value-digit, value-same}
 use Rattle.laws.specs.Turns.{every}
 use Rattle.laws.proofs.Lists.{FilledTo, filled-end}
-use Rattle.laws.proofs.Turns.{every-all}
+use Rattle.laws.proofs.Says.{clash, neither}
+use Rattle.laws.proofs.Turns.{every-one, every-all}
 use Rattle.packets.specs.declared.Packets.{Packets}
 use Rattle.packets.specs.declared.Stepped.{Stepped}
 use Rattle.packets.specs.declared.Wrote.{Wrote}
@@ -138,3 +142,75 @@ module _ (s : List ℕ) {piece old new : List ℕ} (given : Packets) (same : giv
     goes-on = λ z. stands′;
     stays = λ z. absurd (z refl);
   }
+
+-- numbers that stand for one state are the same, being 80 numbers of 64 bits
+pub record Numbers (s : List ℕ) : Type 0 where
+  pub long : length s ≡ 80
+  pub small : (i : ℕ) → getD s i 0 < 256 ^ 8
+
+-- a number that is a flag is told by the flag
+flag-told : (x y : ℕ) → x ≤ 1 → y ≤ 1 → not (eqb x 0) ≡ not (eqb y 0) → x ≡ y
+flag-told x y a b e = by (ℕ-discrete x 0) (ℕ-discrete y 0)
+  where
+    by : Dec (x ≡ 0) → Dec (y ≡ 0) → x ≡ y
+    by (yes p) (yes q) = p ∙ sym q
+    by (yes p) (no q) = clash (ap not (ne-eqb y 0 q)) (sym e ∙ ap not (eq-eqb x 0 p))
+    by (no p) (yes q) = clash (ap not (ne-eqb x 0 p)) (e ∙ ap not (eq-eqb y 0 q))
+    by (no p) (no q) = omega arith
+
+tail-told : (v w : ℕ) → v < 256 ^ 8 → w < 256 ^ 8 → tailOf v ≡ tailOf w → v ≡ w
+tail-told v w a b e =
+    sym (mod-eq-of-lt a)
+    ∙ sym (value-digit 256 8 v (omega arith))
+    ∙ value-same 256 8 (λ p. digit 256 p v) (λ p. digit 256 p w) (λ p h. sym (table-at 8 (λ j. digit 256 j v) p h) ∙ ap (λ (l : List ℕ). getD l p 0) e ∙ table-at 8 (λ j. digit 256 j w) p h)
+    ∙ value-digit 256 8 w (omega arith)
+    ∙ mod-eq-of-lt b
+
+module _ {st : Packets} {s t : List ℕ} (ns : Numbers s) (nt : Numbers t) (p : Stands st s) (q : Stands st t) where
+  same-state : stateOf s ≡ stateOf t
+  same-state = p .state ∙ sym (q .state)
+
+  small-flags : (l : List ℕ) → strays l ≡ false → (getD l 3 0 ≤ 1) × ((getD l 4 0 ≤ 1) × ((getD l 5 0 ≤ 1) × (allUnused l ≡ true)))
+  small-flags l e =
+      let outer = neither ((ltb 1 (getD l 3 0) || ltb 1 (getD l 4 0)) || ltb 1 (getD l 5 0)) (not (allUnused l)) e in
+      let inner = neither (ltb 1 (getD l 3 0) || ltb 1 (getD l 4 0)) (ltb 1 (getD l 5 0)) (outer .0) in
+      let first-two = neither (ltb 1 (getD l 3 0)) (ltb 1 (getD l 4 0)) (inner .0) in
+      (ltb-false 1 (getD l 3 0) (first-two .0), (ltb-false 1 (getD l 4 0) (first-two .1), (ltb-false 1 (getD l 5 0) (inner .1), not-false (allUnused l) (outer .1))))
+
+  none-left : (l : List ℕ) → allUnused l ≡ true → (j : ℕ) → j < 8 → getD l (72 + j) 0 ≡ 0
+  unfolding allUnused
+  none-left l e j h = eqb-true (getD l (72 + j) 0) 0 (every-one 8 (unused l) e j h)
+
+  same-sum : (j : ℕ) → j < 64 → getD s (8 + j) 0 ≡ getD t (8 + j) 0
+  unfolding sumsIn
+  same-sum j h = sym (table-at 64 (λ i. getD s (8 + i) 0) j h) ∙ ap (λ (x : Packets). getD (x .sums) j 0) same-state ∙ table-at 64 (λ i. getD t (8 + i) 0) j h
+
+  front-same : (i : ℕ) → i < 8 → getD s i 0 ≡ getD t i 0
+  front-same zero h = ap (λ (x : Packets). x .plan .«row_bytes») same-state
+  front-same (suc zero) h = ap (λ (x : Packets). x .plan .channels) same-state
+  front-same (suc (suc zero)) h = ap (λ (x : Packets). x .plan .width) same-state
+  front-same (suc (suc (suc zero))) h = flag-told (getD s 3 0) (getD t 3 0) (small-flags s (p .kept) .0) (small-flags t (q .kept) .0) (ap (λ (x : Packets). x .plan .le) same-state)
+  front-same (suc (suc (suc (suc zero)))) h = flag-told (getD s 4 0) (getD t 4 0) (small-flags s (p .kept) .1 .0) (small-flags t (q .kept) .1 .0) (ap (λ (x : Packets). x .plan .predict) same-state)
+  front-same (suc (suc (suc (suc (suc zero))))) h = flag-told (getD s 5 0) (getD t 5 0) (small-flags s (p .kept) .1 .1 .0) (small-flags t (q .kept) .1 .1 .0) (ap (λ (x : Packets). x .plan .«out_le») same-state)
+  front-same (suc (suc (suc (suc (suc (suc zero)))))) h = ap (λ (x : Packets). x .received) same-state
+  front-same (suc (suc (suc (suc (suc (suc (suc zero))))))) h = tail-told (getD s 7 0) (getD t 7 0) (ns .small 7) (nt .small 7) (ap (λ (x : Packets). x .tail) same-state)
+  front-same (suc (suc (suc (suc (suc (suc (suc (suc i)))))))) h = absurd (omega arith)
+
+  back-same : (j : ℕ) → j < 72 → getD s (8 + j) 0 ≡ getD t (8 + j) 0
+  back-same j h = by (decLt j 64)
+    where
+      by : Dec (j < 64) → getD s (8 + j) 0 ≡ getD t (8 + j) 0
+      by (yes l) = same-sum j l
+      by (no m) =
+          let there : 8 + j ≡ 72 + (j - 64) = omega arith in
+          rw there (none-left s (small-flags s (p .kept) .1 .1 .1) (j - 64) (omega arith) ∙ sym (none-left t (small-flags t (q .kept) .1 .1 .1) (j - 64) (omega arith)))
+
+  at : (i : ℕ) → i < 80 → getD s i 0 ≡ getD t i 0
+  at i h = by (decLt i 8)
+    where
+      by : Dec (i < 8) → getD s i 0 ≡ getD t i 0
+      by (yes l) = front-same i l
+      by (no m) = let there : 8 + (i - 8) ≡ i = omega arith in rw there at (back-same (i - 8) (omega arith))
+
+  pub stands-once : s ≡ t
+  stands-once = ext-getD 0 s t (ns .long ∙ sym (nt .long)) (λ i l. at i (omega (arith, ns .long)))

@@ -1,6 +1,6 @@
 // Whether a start and pieces lead to a state.
-use crate::feed;
 use crate::Packets;
+use crate::feed;
 use answer::Done;
 ghost use mathlib.Core.Path.{_≡_};
 ghost use mathlib.Core.Bool.{true, _||_};

@@ -134,7 +134,13 @@ fn predicted(plan: Plan, received: usize, raw: &[u8], sums: &mut [u64], out: &mu
         return in_row(plan, received, raw, sums, out);
     }
     let start: usize = 0;
-    in_row(plan, received, &raw[start..left], sums, &mut out[start..left]);
+    in_row(
+        plan,
+        received,
+        &raw[start..left],
+        sums,
+        &mut out[start..left],
+    );
     from_row(plan, received + left, &raw[left..], sums, &mut out[left..])
 }
 

@@ -101,7 +101,7 @@ module _ (le out-le : Bool) {raw : List ℕ} {first channels width : ℕ} {start
         let i = k / width in
         let less : i < n = div-lt-iff-lt-mul {k = width} {x = k} {y = n} wide .1 (omega (arith, c-words)) in
         rw (zero-add k) (ap (digit 256 (ordered out-le width (k % width)))
-        (rw (front-word i less) (ap (λ (l : List ℕ). plus width (w i) (getD l ((first + i) % channels) 0)) (after-same first channels width (wordOf width le a) w start i (λ q l. front-word q (omega arith))))))))) 
+        (rw (front-word i less) (ap (λ (l : List ℕ). plus width (w i) (getD l ((first + i) % channels) 0)) (after-same first channels width (wordOf width le a) w start i (λ q l. front-word q (omega arith)))))))))
 
     pub out-long : length out ≡ length old
     out-long = ap length (front-filled (resumedAt raw first channels width le out-le start) c old x x-is) ∙ length-filled c _ old (omega (arith, fits .same))

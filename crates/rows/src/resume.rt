@@ -115,7 +115,14 @@ fn pixels(
         sums[3],
         out,
     );
-    held(out, raw.len() - channels * width, channels, width, out_le, sums)
+    held(
+        out,
+        raw.len() - channels * width,
+        channels,
+        width,
+        out_le,
+        sums,
+    )
 }
 
 // Words from a pixel's start on.
