@@ -25,8 +25,8 @@ use Rattle.samples.specs.Sample.{wordOf, storedAt}
 use Rattle.samples.specs.Sample as S
 use Rattle.samples.proofs.Stored.{stored-word}
 use Rattle.samples.proofs.Parts.{part-word}
-use Rattle.rows.specs.Row.{oneRow, RowFits, resumed, ResumedInto, HeldFits}
-use Rattle.rows.specs.Resume.{sumsAfter, sampleAfter, resumedAt, RunFits, RanInto, FewFit, PixelsFit, LastFits, Held}
+use Rattle.rows.specs.Row.{oneRow, RowFits, FewFit, resumed, ResumedInto}
+use Rattle.rows.specs.Resume.{sumsAfter, sampleAfter, resumedAt, RunFits, RanInto, PixelsFit, LastFits, Held}
 use Rattle.rows.proofs.Loops.{Upto, upto-none, back-at, turn-room, ended, carried, carried-first, carried-later, carried-on}
 use Rattle.rows.proofs.Loops as L
 
@@ -249,7 +249,3 @@ module _ {raw : List ℕ} {channels width : ℕ} {start old : List ℕ} (fit : P
             ∙ sym (last-sums raw channels width le start (run .here) sums-held n (omega arith) pixels-are deep);
         wrote = new-is;
       }
-
--- one or two channels, or three or four
-pub few-held : {raw : List ℕ} {channels width : ℕ} {out : List ℕ} → FewFit raw channels width out → (least : ℕ) → least ≤ channels → channels ≤ least + 1 → HeldFits least raw channels width out
-few-held fit least low high = record { takes = fit .takes; fits = fit .fits; enough = low; few = high }

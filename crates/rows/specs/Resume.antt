@@ -12,7 +12,6 @@ use Rattle.answer.specs.declared.Done.{Done}
 use Rattle.words.specs.Word.{wordAt, plus}
 use Rattle.words.specs.Promises.{served}
 use Rattle.samples.specs.Sample.{wordOf, storedAt}
-use Rattle.rows.specs.Row.{RowFits}
 
 -- the sums after n of the words w, the first of which is of channel `first`; the row begins with `start`
 abbrev pub sumsAfter : ℕ → ℕ → ℕ → (ℕ → ℕ) → List ℕ → ℕ → List ℕ
@@ -56,12 +55,6 @@ pub record RunFits (raw : List ℕ) (first channels width : ℕ) (sums out : Lis
 pub record RanInto (raw : List ℕ) (first channels width : ℕ) (le out-le : Bool) (start after new : List ℕ) : Type 0 where
   pub sums : after ≡ sumsAfter first channels width (wordOf width le raw) start (length raw / width)
   pub wrote : new ≡ table (length raw) (resumedAt raw first channels width le out-le start)
-
--- whole pixels of channels whose sums are held in locals
-pub record FewFit (raw : List ℕ) (channels width : ℕ) (out : List ℕ) : Type 0 where
-  pub takes : served width ≡ true
-  pub fits : RowFits raw channels width out
-  pub few : channels ≤ 4
 
 -- whole pixels
 pub record PixelsFit (raw : List ℕ) (channels width : ℕ) (sums out : List ℕ) : Type 0 where

@@ -1,15 +1,12 @@
 // A row that is taken up in its middle, from the sums so far of its channels: words one by one up to a pixel's start, whole pixels in the
 // loops of rows, and the words that are left.
-use crate::narrow;
-use crate::wide;
+use crate::few;
 use crate::word;
 ghost use mathlib.Core.Path.{_≡_};
-ghost use mathlib.Core.List.{[], _∷_};
 ghost use Prim.Native.Nat.{_+_, _<_};
 ghost use lib.Dec.{eqb};
 ghost use Rattle.answer.specs.Outcome.{pick};
-ghost use Rattle.rows.specs.Row.{ResumedInto};
-ghost use Rattle.rows.specs.Resume.{RunFits, RanInto, FewFit, PixelsFit, LastFits, Held};
+ghost use Rattle.rows.specs.Resume.{RunFits, RanInto, PixelsFit, LastFits, Held};
 
 fn following(channel: usize, channels: usize) -> usize
     requires { ⌜ channel < channels ⌝ }
@@ -61,29 +58,6 @@ fn held(out: &[u8], last: usize, channels: usize, width: usize, out_le: bool, su
     }
 }
 
-// Whole pixels of at most four channels, in the loops that hold the sums in locals.
-fn few(
-    raw: &[u8],
-    channels: usize,
-    width: usize,
-    le: bool,
-    out_le: bool,
-    a: u64,
-    b: u64,
-    c: u64,
-    d: u64,
-    out: &mut [u8],
-)
-    requires { ⌜ FewFit (now raw) channels width (now out) ⌝ }
-    ensures { λ r. ⌜ ResumedInto (now (raw .entry)) channels width le «out_le» (a ∷ b ∷ c ∷ d ∷ []) (now (out .entry)) (now (out .exit)) ⌝ }
-{
-    if channels < 3 {
-        narrow::narrow(raw, channels, width, le, out_le, a, b, out)
-    } else {
-        wide::wide(raw, channels, width, le, out_le, a, b, c, d, out)
-    }
-}
-
 // Whole pixels.
 fn pixels(
     raw: &[u8],
@@ -103,7 +77,7 @@ fn pixels(
     if 4 < channels {
         return words(raw, 0, channels, width, le, out_le, sums, out);
     }
-    few(
+    few::few(
         raw,
         channels,
         width,

@@ -1,13 +1,12 @@
--- `rows::resume::few` meets its contract: one or two channels, or three or four. Assumes nothing.
+-- `rows::few::few` meets its contract: one or two channels, or three or four. Assumes nothing.
 use borrow.Author.Needs.{needs}
 use native.Mathlib.Omega.{arith}
 use mathlib.Core.Path.{_∙_}
 use mathlib.Core.List.{[], _∷_}
 use denote.Ref.{now}
-use Rattle.rows.proofs.Loops.{resumed-more}
-use Rattle.rows.proofs.Running.{few-held}
-use Rattle.rows.proofs.resume.few.Statement.{statement}
-use Rattle.rows.proofs.resume.few.Tie as tie
+use Rattle.rows.proofs.Loops.{resumed-more, few-held}
+use Rattle.rows.proofs.few.few.Statement.{statement}
+use Rattle.rows.proofs.few.few.Tie as tie
 
 pub few-spec : {M : Type 1} → statement M
 few-spec =
