@@ -22,7 +22,7 @@ use Rattle.samples.proofs.Sums.{sample-alone, sample-later, difference-later}
 use Rattle.samples.proofs.Stored.{stored-byte}
 use Rattle.samples.proofs.Undo.{sample-below}
 use Rattle.words.specs.Promises.{served}
-use Rattle.rows.specs.Row.{oneRow, RowFits, HeldFits, FewFit, Led, meantAt, resumed, ResumedInto}
+use Rattle.rows.specs.Row.{oneRow, RowFits, HeldFits, Led, meantAt, resumed, ResumedInto}
 use Rattle.laws.proofs.Lists.{nothing, zeros}
 
 -- the buffer holds the words v, stored, up to `at`, of n bytes in all
@@ -216,7 +216,3 @@ led-upto v raw channels width out-le out led = record {
   same = refl;
   so-far = sym (filled-already (channels * width) (storedAt width out-le v) out (led .front));
 }
-
--- one or two channels, or three or four
-pub few-held : {raw : List ℕ} {channels width : ℕ} {out : List ℕ} → FewFit raw channels width out → (least : ℕ) → least ≤ channels → channels ≤ least + 1 → HeldFits least raw channels width out
-few-held fit least low high = record { takes = fit .takes; fits = fit .fits; enough = low; few = high }

@@ -72,12 +72,6 @@ pub record HeldFits (least : ℕ) (raw : List ℕ) (channels width : ℕ) (out :
   pub enough : least ≤ channels
   pub few : channels ≤ least + 1
 
--- a row of at most four channels
-pub record FewFit (raw : List ℕ) (channels width : ℕ) (out : List ℕ) : Type 0 where
-  pub takes : served width ≡ true
-  pub fits : RowFits raw channels width out
-  pub few : channels ≤ 4
-
 -- what is known of a row past every refusal
 pub record RowServed (raw : List ℕ) (channels width : ℕ) (out : List ℕ) : Type 0 where
   pub takes : served width ≡ true

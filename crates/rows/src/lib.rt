@@ -1,6 +1,5 @@
 // A strip's rows, predicted or with prediction undone: each kind of row in a loop of its own, for every width and both byte orders.
 mod differences;
-mod few;
 mod fours;
 mod narrow;
 mod resume;
@@ -49,8 +48,10 @@ fn transform_words(
         if forward | (4 < channels) {
             lead(raw, channels * width, width, le, out_le, out);
             steps::steps(raw, channels, width, le, out_le, forward, out)
+        } else if channels < 3 {
+            narrow::narrow(raw, channels, width, le, out_le, 0, 0, out)
         } else {
-            few::few(raw, channels, width, le, out_le, 0, 0, 0, 0, out)
+            wide::wide(raw, channels, width, le, out_le, 0, 0, 0, 0, out)
         }
     } else {
         samples::reorder(raw, width, le, out_le, out);
@@ -178,7 +179,7 @@ pub fn resume_row(
     }
     let start: usize = 0;
     let end = raw.len();
-    resume::run(
+    resume::words(
         raw,
         first,
         channels,
