@@ -6,8 +6,8 @@ use Prim.Native.Nat.{ℕ, zero, suc, _+_, _-_, _*_, _/_, _%_, _≤_, _<_}
 use native.Mathlib.Nat.{div-add-mod', mul-le-mul-right, suc-mul}
 use native.Mathlib.Decide.{decLt}
 use native.Mathlib.Omega.{arith}
-use borrow.Author.Tests.{lt-ltb, le-ltb}
-use lib.Dec.{ltb, eqb}
+use borrow.Author.Tests.{le-ltb}
+use lib.Dec.{ltb}
 use lib.ListN.{getD}
 use Rattle.answer.specs.Outcome.{pick}
 use Rattle.answer.proofs.Filling.{table-same}
@@ -17,7 +17,7 @@ use Rattle.samples.specs.Sample.{alone, wordOf}
 use Rattle.samples.proofs.Sums.{not-alone, sample-alone, sample-later}
 use Rattle.packets.specs.declared.Plan.{Plan}
 use Rattle.packets.specs.State.{geometry, perRow, sampleOf, latest, tailAt, sumAt, tailOf, sumsOf, stateAt}
-use Rattle.packets.proofs.Bytewise.{Run, runAt}
+use Rattle.packets.proofs.Bytewise.{runAt}
 use Rattle.packets.proofs.Bytewise.{Sane}
 
 pub latest-same : (channels : ℕ) (v w : ℕ → ℕ) (m j : ℕ) → ((i : ℕ) → i < m → v i ≡ w i) → latest channels v m j ≡ latest channels w m j

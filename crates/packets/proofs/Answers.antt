@@ -1,11 +1,9 @@
 -- How a piece's promise and a start's are met. Assumes nothing.
-use Prim.{Unit}
-use mathlib.Core.Path.{_≡_, refl, sym, ap, _∙_}
+use mathlib.Core.Path.{_≡_, sym, _∙_}
 use mathlib.Core.List.{List, []}
 use Prim.Native.Nat.{ℕ}
 use lib.ListN.{length}
-use Rattle.answer.specs.Outcome.{Outcome, done, refused, unless, First, Sound, instead, doneOutcome}
-use Rattle.answer.specs.Table.{table, filled}
+use Rattle.answer.specs.Outcome.{done, refused, unless, First, Sound, doneOutcome}
 use Rattle.answer.proofs.Filling.{whole}
 use Rattle.answer.proofs.Promised.{first-refused, sound-done}
 use Rattle.samples.specs.Promises.{stripFaults}
@@ -14,7 +12,7 @@ use Rattle.packets.specs.declared.Started.{Started}
 use Rattle.packets.specs.declared.Stepped.{Stepped}
 use Rattle.packets.specs.declared.Plan.{Plan}
 use Rattle.packets.specs.State.{geometry, stateAt}
-use Rattle.packets.specs.Promises.{wroteOutcome, nowhere, Begun, completes, pieceFaults, continuedAt, continued, Took}
+use Rattle.packets.specs.Promises.{wroteOutcome, nowhere, Begun, completes, pieceFaults, continuedAt, Took}
 use Rattle.packets.specs.Steps.{Fed}
 
 module _ {st : Packets} {piece old : List ℕ} {r : Stepped} where

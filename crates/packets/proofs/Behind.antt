@@ -1,7 +1,6 @@
 -- A state that passes the check is where the strip behind it leads. Assumes nothing.
 use mathlib.Core.Path.{_≡_, refl, sym, ap, _∙_}
-use mathlib.Core.Bool.{Bool, true, false, not, _&&_, _||_}
-use mathlib.Core.List.{List, [], _∷_}
+use mathlib.Core.Bool.{Bool, true, false, not}
 use Prim.Native.Nat.{ℕ, zero, suc, _+_, _-_, _*_, _/_, _%_, _≤_, _<_}
 use native.Mathlib.Nat.{div-add-mod', mul-le-mul-right, suc-mul, mod-lt, mod-eq-of-lt, zero-add, add-mod-right, mod-le}
 use native.Mathlib.Decide.{decLt, ℕ-discrete}
@@ -10,30 +9,27 @@ use borrow.Author.Tests.{lt-ltb, le-ltb, eqb-true, ltb-true, ltb-false, not-true
 use Rattle.laws.proofs.Groups.{item-of, group-in-row}
 use lib.Dec.{ltb, eqb}
 use lib.ListN.{length, getD}
-use Rattle.answer.specs.Outcome.{pick, Sound, none, next, Fault}
-use Rattle.answer.specs.Table.{table}
+use Rattle.answer.specs.Outcome.{pick, Sound}
 use Rattle.answer.proofs.Filling.{length-table, table-at, table-same, table-self}
-use Rattle.words.specs.Digits.{digit}
-use Rattle.words.specs.Word.{ordered, modulus, plus}
+use Rattle.words.specs.Word.{modulus}
 use Rattle.words.specs.Promises.{served}
 use Rattle.words.proofs.Words.{digits-word, modulus-pos}
 use Rattle.words.proofs.Served.{served-some}
-use Rattle.samples.specs.Sample.{strip, alone, wordOf, storedAt}
+use Rattle.samples.specs.Sample.{strip, alone, wordOf}
 use Rattle.samples.specs.Promises.{stripFaults}
-use Rattle.samples.proofs.Sums.{not-alone, in-row, sample-alone, sample-later}
+use Rattle.samples.proofs.Sums.{in-row, sample-alone, sample-later}
 use Rattle.samples.proofs.Stored.{stored-byte}
 use Rattle.samples.proofs.Strips.{good-checked, per-row}
 use Rattle.answer.proofs.Promised.{sound-here, sound-rest}
 use Rattle.packets.specs.declared.Packets.{Packets}
 use Rattle.packets.specs.declared.Plan.{Plan}
-use Rattle.packets.specs.State.{geometry, perRow, sampleOf, latest, tailAt, sumAt, tailOf, sumsOf, stateAt, most, clear, live, tailRight, sumRight, tailsRight, sumsRight, consistent, behind}
+use Rattle.packets.specs.State.{geometry, sampleOf, latest, tailAt, sumAt, tailOf, sumsOf, stateAt, most, clear, live, tailRight, sumRight, tailsRight, sumsRight, consistent, behind}
 use Rattle.laws.proofs.Says.{both, up}
 use Rattle.laws.proofs.Turns.{every-one}
 use Rattle.laws.proofs.Lists.{past-end}
 use Rattle.packets.proofs.Checking.{clear-sound}
 use Rattle.packets.proofs.Latest.{latest-none}
 use Rattle.packets.proofs.Bytewise.{Sane, row-some}
-use Rattle.packets.proofs.Agree.{word-in}
 
 -- the numbers that its type gives a state
 pub record Shaped (st : Packets) : Type 0 where

@@ -2,8 +2,8 @@
 use mathlib.Core.Path.{_≡_, refl, sym, ap, _∙_}
 use mathlib.Core.Bool.{Bool, true, false, not, _||_}
 use mathlib.Core.List.{List}
-use Prim.Native.Nat.{ℕ, zero, suc, _+_, _-_, _*_, _/_, _%_, _≤_, _<_}
-use native.Mathlib.Nat.{div-add-mod', mod-lt, zero-mod, add-zero, zero-add, mod-le, le-div-iff-mul-le, one-mul, add-mul, mul-div-cancel}
+use Prim.Native.Nat.{ℕ, _+_, _-_, _*_, _/_, _%_, _≤_, _<_}
+use native.Mathlib.Nat.{div-add-mod', mod-lt, zero-mod, add-zero, zero-add, le-div-iff-mul-le, one-mul, add-mul, mul-div-cancel}
 use native.Mathlib.Numerals.{add-one}
 use native.Mathlib.Decide.{decLt}
 use native.Mathlib.Omega.{arith}
@@ -13,10 +13,10 @@ use lib.ListN.{getD, set}
 use Rattle.answer.specs.Outcome.{pick}
 use Rattle.answer.specs.Table.{table}
 use Rattle.answer.proofs.Filling.{table-at, table-same}
-use Rattle.words.specs.Word.{wordAt, modulus, plus}
+use Rattle.words.specs.Word.{wordAt, plus}
 use Rattle.words.proofs.Words.{word-same}
-use Rattle.samples.specs.Sample.{Strip, Good, alone, wordOf, sample}
-use Rattle.samples.proofs.Sums.{sample-alone, sample-later, in-row}
+use Rattle.samples.specs.Sample.{Good, alone, wordOf, sample}
+use Rattle.samples.proofs.Sums.{sample-alone, sample-later}
 use Rattle.samples.proofs.Strips.{width-fits}
 use Rattle.packets.specs.declared.Plan.{Plan}
 use Rattle.packets.specs.State.{geometry, perRow, sampleOf, latest, tailAt, sumAt, tailOf, sumsOf}

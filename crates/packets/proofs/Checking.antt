@@ -1,14 +1,13 @@
 -- The check, put together: its loops' ends, and which of its tests decides. Assumes nothing.
 use mathlib.Core.Path.{_≡_, refl, sym, ap, _∙_}
-use mathlib.Core.Bool.{Bool, true, false, not, _&&_}
+use mathlib.Core.Bool.{Bool, true, false, not}
 use mathlib.Core.List.{List, [], _∷_}
 use Prim.Native.Nat.{ℕ, _+_, _≤_, _<_}
 use native.Mathlib.Decide.{decLt}
 use native.Mathlib.Omega.{arith}
 use borrow.Author.Tests.{lt-ltb, le-ltb, le-leb, lt-leb, not-true}
-use lib.Dec.{ltb, leb, eqb}
-use lib.ListN.{getD}
-use Rattle.answer.specs.Outcome.{Fault, pick, First, here, later, Sound, none, next}
+use lib.Dec.{ltb, leb}
+use Rattle.answer.specs.Outcome.{Fault, First, here, later, Sound, none, next}
 use Rattle.words.specs.Word.{modulus}
 use Rattle.laws.specs.Turns.{every}
 use Rattle.laws.proofs.Says.{both, up}

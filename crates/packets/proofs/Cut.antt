@@ -1,22 +1,20 @@
 -- A piece is its first part and then its second: the state, what is written, and how two loops make one. Assumes nothing.
-use mathlib.Core.Path.{_≡_, refl, sym, ap, _∙_, subst}
-use mathlib.Core.Bool.{Bool, true}
+use mathlib.Core.Path.{_≡_, refl, sym, ap, _∙_}
+use mathlib.Core.Bool.{true}
 use mathlib.Core.List.{List, [], _++_, append-assoc, append-nil}
 use Prim.Native.Nat.{ℕ, _+_, _-_, _*_, _/_, _%_, _≤_, _<_}
 use native.Mathlib.Nat.{div-add-mod', add-mul-div-right, add-mul, add-assoc, mul-comm, mul-sub, mul-le-mul-right, div-lt-iff-lt-mul}
 use native.Mathlib.Omega.{arith}
 use lib.Seq.{drop-at, drop-drop, take-all}
-use lib.ListN.{length, getD, take, drop, length-append, length-drop, drop-of-length-le, List·getD-append}
+use lib.ListN.{length, take, drop, length-append, length-drop, drop-of-length-le, List·getD-append}
 use Rattle.answer.specs.Table.{table, filled}
-use Rattle.answer.proofs.Filling.{table-same, table-join, length-table, part-filled, filled-take, filled-all, filled-same}
+use Rattle.answer.proofs.Filling.{table-join, length-table, filled-take}
 use Rattle.words.specs.Digits.{digit}
 use Rattle.words.specs.Word.{ordered}
-use Rattle.samples.specs.Sample.{storedAt}
 use Rattle.packets.specs.declared.Packets.{Packets}
 use Rattle.packets.specs.declared.Plan.{Plan}
-use Rattle.packets.specs.State.{sampleOf, stateAt, consistent, behind, most}
+use Rattle.packets.specs.State.{stateAt, consistent, behind, most}
 use Rattle.packets.specs.Promises.{completes, continuedAt, continued}
-use Rattle.packets.specs.Steps.{Feeds, Fed}
 use Rattle.laws.proofs.Groups.{more-groups}
 use Rattle.packets.proofs.Bytewise.{Sane}
 use Rattle.packets.proofs.Agree.{sample-agrees}

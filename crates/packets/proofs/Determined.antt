@@ -11,7 +11,6 @@ use Rattle.packets.specs.declared.Stepped.{Stepped}
 use Rattle.packets.specs.declared.Wrote.{Wrote}
 use Rattle.packets.specs.declared.Wrote.the-variants as Wrote-is
 use Rattle.packets.specs.declared.Plan.{Plan}
-use Rattle.packets.specs.State.{geometry}
 use Rattle.packets.specs.Promises.{wroteOutcome, Begun, Took, Closed}
 
 abbrev back : Outcome ℕ → Wrote

@@ -1,8 +1,8 @@
 -- A word that was cut is finished, and bytes come from the next word's start on. Assumes nothing.
-use mathlib.Core.Path.{_≡_, refl, sym, ap, _∙_, subst}
+use mathlib.Core.Path.{_≡_, sym, ap, _∙_, subst}
 use mathlib.Core.List.{List, _++_}
 use Prim.Native.Nat.{ℕ, _+_, _-_, _*_, _/_, _%_, _≤_, _<_}
-use native.Mathlib.Nat.{div-add-mod', mod-lt, mod-le, mod-self, add-mul, one-mul, mul-div-cancel, mul-mod-left}
+use native.Mathlib.Nat.{div-add-mod', mod-le, add-mul, one-mul, mul-div-cancel, mul-mod-left}
 use native.Mathlib.Omega.{arith}
 use lib.ListN.{length, take, drop}
 use Rattle.answer.proofs.Filling.{part, length-part, length-stores, length-filled, halfway}

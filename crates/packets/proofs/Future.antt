@@ -1,10 +1,9 @@
 -- Two strips that lead to one state have one future: what comes is converted alike. So a piece does what it would after any strip that leads
 -- to the state. Assumes nothing.
-use mathlib.Core.Path.{_≡_, refl, sym, ap, _∙_}
+use mathlib.Core.Path.{_≡_, sym, ap, _∙_}
 use mathlib.Core.List.{List, _++_}
 use Prim.Native.Nat.{ℕ, zero, suc, _+_, _-_, _*_, _/_, _%_, _≤_, _<_}
-use native.Mathlib.Nat.{add-zero, add-suc, mod-lt, div-add-mod', mul-le-mul-right, suc-mul, le-div-iff-mul-le, div-lt-iff-lt-mul, mul-comm, mul-sub}
-use native.Mathlib.Numerals.{add-one}
+use native.Mathlib.Nat.{add-zero, mod-lt, div-add-mod', mul-le-mul-right, suc-mul, le-div-iff-mul-le, div-lt-iff-lt-mul, mul-comm, mul-sub}
 use native.Mathlib.Decide.{decLt}
 use native.Mathlib.Omega.{arith}
 use lib.ListN.{length, getD, List·getD-append}
@@ -15,12 +14,12 @@ use Rattle.words.specs.Word.{ordered}
 use Rattle.samples.specs.Sample.{storedAt}
 use Rattle.packets.specs.declared.Packets.{Packets}
 use Rattle.packets.specs.declared.Plan.{Plan}
-use Rattle.packets.specs.State.{perRow, sampleOf, tailOf, sumsOf, stateAt, behind}
+use Rattle.packets.specs.State.{sampleOf, tailOf, sumsOf, stateAt, behind}
 use Rattle.packets.specs.Promises.{completes, continuedAt, continued}
-use Rattle.packets.proofs.Bytewise.{Run, runAt, held, finished, advanced}
-use Rattle.laws.proofs.Groups.{within, over, more-groups}
+use Rattle.packets.proofs.Bytewise.{Run, runAt, finished}
+use Rattle.laws.proofs.Groups.{more-groups}
 use Rattle.packets.proofs.Bytewise.{Sane, still, ready, went}
-use Rattle.packets.proofs.Agree.{run-agrees, state-agrees}
+use Rattle.packets.proofs.Agree.{run-agrees}
 use Rattle.packets.proofs.Behind.{Passed, Shaped, sane, behind-length, behind-leads}
 
 -- the loop's positions follow from the state, and the state from them

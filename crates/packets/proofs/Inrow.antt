@@ -1,13 +1,13 @@
 -- Words of one row, with prediction: their samples are those of a row that is taken up at this channel, from these sums. Assumes nothing.
 use Prim.{Unit}
-use mathlib.Core.Path.{_≡_, refl, sym, ap, _∙_}
-use mathlib.Core.Bool.{Bool, true, not}
+use mathlib.Core.Path.{_≡_, sym, ap, _∙_}
+use mathlib.Core.Bool.{not}
 use mathlib.Core.List.{List}
 use Prim.Native.Nat.{ℕ, zero, suc, _+_, _-_, _*_, _/_, _%_, _≤_, _<_}
-use native.Mathlib.Nat.{div-add-mod', add-mul, add-zero, mod-add-mod, mod-lt, zero-mod, mod-self, le-of-mul-le-mul-right, lt-of-mul-lt-mul-right}
+use native.Mathlib.Nat.{div-add-mod', add-mul, add-zero, mod-add-mod, mod-lt, mod-self, le-of-mul-le-mul-right, lt-of-mul-lt-mul-right}
 use native.Mathlib.Omega.{arith}
 use borrow.Author.Tests.{eq-eqb, lt-ltb, le-ltb}
-use lib.ListN.{length, getD, set}
+use lib.ListN.{length, set}
 use Rattle.answer.specs.Outcome.{Outcome, instead, Sound, none, next}
 use Rattle.answer.specs.Table.{table, filled}
 use Rattle.answer.specs.declared.Done.{Done}
@@ -22,7 +22,7 @@ use Rattle.packets.specs.declared.Plan.{Plan}
 use Rattle.packets.specs.State.{geometry, perRow, sampleOf, sumsOf}
 use Rattle.packets.specs.Promises.{noSums}
 use Rattle.packets.specs.Steps.{WordsFeed, RowWords, WordsFed, Cleared}
-use Rattle.packets.proofs.Bytewise.{Sane, row-some, sums-none, word-sample, word-sums}
+use Rattle.packets.proofs.Bytewise.{Sane, sums-none, word-sample, word-sums}
 use Rattle.packets.proofs.Behind.{row-place}
 use Rattle.packets.proofs.Wordwise.{ok, is, s, width-served, a-words, words-room, word-here, sums-here, words-fed, row-starts}
 

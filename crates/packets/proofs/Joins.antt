@@ -1,8 +1,8 @@
 -- Bytes that are fed in two calls, the second over the rest of them and of the buffer, are fed. Assumes nothing.
-use mathlib.Core.Path.{_≡_, refl, sym, ap, _∙_, subst}
+use mathlib.Core.Path.{_≡_, sym, ap, _∙_, subst}
 use mathlib.Core.List.{List, _++_}
 use Prim.Native.Nat.{ℕ, _+_, _-_, _*_, _/_, _%_, _≤_, _<_}
-use native.Mathlib.Nat.{add-assoc, div-add-mod', add-mul-mod-self-right}
+use native.Mathlib.Nat.{div-add-mod', add-mul-mod-self-right}
 use native.Mathlib.Omega.{arith}
 use lib.ListN.{length, take, drop, take-append-drop}
 use Rattle.answer.proofs.Filling.{part, length-part, halfway}

@@ -1,6 +1,5 @@
 -- The last of a channel's samples: none, the one `channels` before, and one more. Assumes nothing.
-use mathlib.Core.Path.{_≡_, refl, sym, ap, _∙_}
-use mathlib.Core.Bool.{Bool, true, false}
+use mathlib.Core.Path.{_≡_, refl, sym, ap}
 use Prim.Native.Nat.{ℕ, zero, suc, _+_, _-_, _%_, _≤_, _<_}
 use native.Mathlib.Nat.{mod-eq-of-lt, add-mod-right}
 use native.Mathlib.Decide.{ℕ-discrete}

@@ -1,15 +1,14 @@
 -- Two loops in ordered, the second over the rest of the piece and of the buffer, are one loop. Assumes nothing.
 use mathlib.Core.Path.{_≡_, refl, sym, ap, _∙_, subst}
-use mathlib.Core.Bool.{true}
-use mathlib.Core.List.{List, [], _++_}
-use Prim.Native.Nat.{ℕ, _+_, _-_, _≤_, _<_}
+use mathlib.Core.List.{List, _++_}
+use Prim.Native.Nat.{ℕ, _+_, _-_, _≤_}
 use native.Mathlib.Omega.{arith}
-use lib.ListN.{length, take, drop, length-append, length-take, length-drop, take-append-drop}
+use lib.ListN.{length, take, drop, length-append, length-drop, take-append-drop}
 use lib.Seq.{take-all}
 use Rattle.answer.specs.Table.{table, filled}
-use Rattle.answer.proofs.Filling.{length-table, length-filled, table-same, filled-all, filled-same, part-filled, length-part}
+use Rattle.answer.proofs.Filling.{length-filled, table-same, filled-all, filled-same, part-filled, length-part}
 use Rattle.packets.specs.declared.Packets.{Packets}
-use Rattle.packets.specs.State.{stateAt, consistent, most}
+use Rattle.packets.specs.State.{stateAt, most}
 use Rattle.packets.specs.Promises.{completes, continuedAt, continued}
 use Rattle.packets.specs.Steps.{Feeds, Fed}
 use Rattle.packets.proofs.Behind.{Passed, passed, Shaped}

@@ -1,35 +1,33 @@
 -- `pieces-convert` and `cut-anywhere`. Assumes nothing.
-use Prim.{Unit}
 use mathlib.Core.Path.{_≡_, refl, sym, ap, _∙_, subst}
-use mathlib.Core.Bool.{Bool, true, false, not}
-use mathlib.Core.List.{List, [], _∷_, _++_, append-assoc}
-use Prim.Native.Nat.{ℕ, zero, suc, _+_, _-_, _*_, _/_, _%_, _≤_, _<_}
-use native.Mathlib.Nat.{zero-mod, zero-div, zero-mul, zero-add, add-assoc, mul-comm, mul-sub, mul-le-mul-right, mod-lt, div-add-mod', div-lt-iff-lt-mul}
+use mathlib.Core.Bool.{true, not}
+use mathlib.Core.List.{List, _++_, append-assoc}
+use Prim.Native.Nat.{ℕ, _+_, _-_, _*_, _/_, _%_, _≤_}
+use native.Mathlib.Nat.{zero-div, zero-mul, mul-comm, mul-sub, mul-le-mul-right, div-add-mod', div-lt-iff-lt-mul}
 use native.Mathlib.Omega.{arith}
 use borrow.Author.Tests.{le-ltb, eqb-true, eq-eqb, not-false}
-use lib.Dec.{ltb, eqb}
+use lib.Dec.{eqb}
 use lib.Seq.{drop-append-seam}
-use lib.ListN.{length, getD, take, drop, length-append, List·getD-append}
-use Rattle.answer.specs.Outcome.{Outcome, done, refused, unless, Sound, next, none, Promise, doneOutcome}
+use lib.ListN.{length, take, drop, length-append, List·getD-append}
+use Rattle.answer.specs.Outcome.{Outcome, done, unless, Sound, next, none, Promise}
 use Rattle.answer.specs.Table.{table}
 use Rattle.answer.specs.declared.Done.the-variants as Done-is
 use Rattle.answer.proofs.Filling.{length-table, table-same, table-join, whole}
-use Rattle.answer.proofs.Promised.{writes, passed, done-sound, sound-here, sound-rest, sound-more, sound-done, finishes}
+use Rattle.answer.proofs.Promised.{writes, passed, sound-here, sound-rest, sound-more, sound-done, finishes}
 use Rattle.words.specs.Digits.{digit}
 use Rattle.words.specs.Word.{Bytes, ordered}
-use Rattle.samples.specs.Sample.{Strip, storedAt, sample}
+use Rattle.samples.specs.Sample.{Strip, storedAt}
 use Rattle.samples.specs.Promises.{stripFaults, convertFaults, Converted}
 use Rattle.samples.proofs.Strips.{bytes-words, good-checked}
 use Rattle.packets.specs.declared.Packets.{Packets}
-use Rattle.packets.specs.declared.Started.{Started}
 use Rattle.packets.specs.declared.Stepped.{Stepped}
 use Rattle.packets.specs.declared.Plan.{Plan}
 use Rattle.packets.specs.State.{geometry, sampleOf, stateAt, consistent, behind, most}
-use Rattle.packets.specs.Promises.{wroteOutcome, Begun, Took, Closed, closeFaults, pieceFaults, completes, continuedAt, continued, joined, Reached, Streamed, opened, fed}
+use Rattle.packets.specs.Promises.{wroteOutcome, Took, Closed, closeFaults, pieceFaults, completes, continuedAt, continued, joined, Reached, Streamed, opened, fed}
 use Rattle.laws.proofs.Groups.{more-groups}
 use Rattle.packets.proofs.Bytewise.{Sane}
 use Rattle.packets.proofs.Agree.{sample-agrees}
-use Rattle.packets.proofs.Behind.{Passed, sane-sound}
+use Rattle.packets.proofs.Behind.{sane-sound}
 use Rattle.packets.proofs.Behind as B
 use Rattle.packets.proofs.Future.{continued-any, continued-at-any}
 use Rattle.packets.proofs.Reaches.{History, history-on, history-passes, history-shaped, history, begun-state, bytes-join, took-state, took-fits}

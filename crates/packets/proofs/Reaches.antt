@@ -1,25 +1,24 @@
 -- `reached-exactly`: a state passes the check if and only if a start and pieces lead to it. Assumes nothing.
 use Prim.{Unit}
 use mathlib.Core.Path.{_≡_, refl, sym, ap, _∙_, subst}
-use mathlib.Core.Bool.{Bool, true, false, not, _&&_, _||_}
-use mathlib.Core.List.{List, [], _∷_, _++_}
+use mathlib.Core.Bool.{Bool, true, false, not, _||_}
+use mathlib.Core.List.{List, [], _++_}
 use Prim.Native.Nat.{ℕ, zero, suc, _+_, _-_, _*_, _/_, _%_, _≤_, _<_}
-use native.Mathlib.Nat.{zero-mod, zero-div, zero-add, mod-lt, mod-le}
+use native.Mathlib.Nat.{zero-add, mod-lt, mod-le}
 use native.Mathlib.Decide.{decLt}
 use native.Mathlib.Omega.{arith}
 use borrow.Author.Tests.{lt-ltb, le-ltb, eq-eqb}
 use lib.Dec.{ltb, eqb}
 use lib.ListN.{length, getD, length-append}
-use Rattle.answer.specs.Outcome.{instead, pick, Sound, next, none, done, refused, unless, doneOutcome}
+use Rattle.answer.specs.Outcome.{instead, pick, Sound, next, none, done, doneOutcome}
 use Rattle.answer.specs.Table.{table, filled}
 use Rattle.answer.specs.declared.Done.the-variants as Done-is
 use Rattle.answer.proofs.Filling.{length-table, table-at}
-use Rattle.answer.proofs.Promised.{done-sound, sound-here, sound-rest, sound-done}
-use Rattle.words.specs.Digits.{digit}
+use Rattle.answer.proofs.Promised.{done-sound, sound-here, sound-rest}
 use Rattle.words.specs.Word.{Bytes, modulus, ordered}
 use Rattle.words.proofs.Digits.{digit-below}
 use Rattle.words.proofs.Words.{modulus-pos}
-use Rattle.samples.specs.Sample.{strip, storedAt}
+use Rattle.samples.specs.Sample.{storedAt}
 use Rattle.samples.specs.Promises.{stripFaults}
 use Rattle.samples.proofs.Undo.{sample-below}
 use Rattle.packets.specs.declared.Packets.{Packets}
@@ -27,7 +26,7 @@ use Rattle.packets.specs.declared.Started.{Started}
 use Rattle.packets.specs.declared.Stepped.{Stepped}
 use Rattle.packets.specs.declared.Wrote.the-variants as Wrote-is
 use Rattle.packets.specs.declared.Plan.{Plan}
-use Rattle.packets.specs.State.{geometry, perRow, sampleOf, latest, tailAt, sumAt, tailOf, sumsOf, stateAt, most, clear, live, tailRight, sumRight, tailsRight, sumsRight, consistent, behind}
+use Rattle.packets.specs.State.{geometry, perRow, sampleOf, latest, tailAt, sumAt, tailOf, sumsOf, stateAt, most, tailRight, sumRight, tailsRight, sumsRight, consistent, behind}
 use Rattle.packets.specs.Promises.{wroteOutcome, Begun, Took, Reached, begun, went, pieceFaults, completes, continuedAt, continued, nowhere}
 use Rattle.laws.proofs.Turns.{every-all}
 use Rattle.packets.proofs.Latest.{latest-none}
@@ -38,9 +37,8 @@ use Rattle.packets.proofs.Checking.{sound-clear}
 use Rattle.packets.proofs.Answers.{took-done, begun-done}
 use lib.ListN.{List·getD-append}
 use lib.Seq.{getD-append-add}
-use borrow.Author.Tests.{ltb-false, not-false}
+use borrow.Author.Tests.{ltb-false}
 use Rattle.answer.specs.Outcome.{Outcome}
-use Rattle.packets.specs.Steps.{Fed}
 use Rattle.packets.proofs.Behind.{}
 use Rattle.packets.proofs.Future.{continued-any}
 

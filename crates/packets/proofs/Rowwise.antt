@@ -1,8 +1,8 @@
 -- Words with prediction, row by row: up to the end of a begun row, whole rows, and the words of the next. Assumes nothing.
-use mathlib.Core.Path.{_≡_, refl, sym, ap, _∙_}
+use mathlib.Core.Path.{_≡_, sym, ap, _∙_}
 use mathlib.Core.List.{List}
 use Prim.Native.Nat.{ℕ, _+_, _-_, _*_, _/_, _%_, _≤_, _<_}
-use native.Mathlib.Nat.{div-add-mod', mod-lt, mod-le, mod-add-mod, mod-self, mul-mod-left, zero-add, add-mul-mod-self-right}
+use native.Mathlib.Nat.{div-add-mod', mod-lt, mod-le, mod-add-mod, mod-self, mul-mod-left, add-mul-mod-self-right}
 use native.Mathlib.Omega.{arith}
 use lib.ListN.{length}
 use Rattle.answer.specs.declared.Done.{Done}

@@ -1,9 +1,9 @@
 -- The unfinished word: bytes that finish none, and a word that was cut and is finished. Assumes nothing.
-use mathlib.Core.Path.{_≡_, refl, sym, ap, _∙_, subst}
-use mathlib.Core.Bool.{Bool, true}
+use mathlib.Core.Path.{_≡_, sym, ap, _∙_, subst}
+use mathlib.Core.Bool.{true}
 use mathlib.Core.List.{List, [], _++_}
-use Prim.Native.Nat.{ℕ, zero, suc, _+_, _-_, _*_, _/_, _%_, _≤_, _<_}
-use native.Mathlib.Nat.{div-add-mod', mod-lt, mod-eq-of-lt, add-mul-mod-self-right, mul-mod-left, mul-div-cancel, zero-mul, sub-self, add-zero, zero-add, mod-self}
+use Prim.Native.Nat.{ℕ, _+_, _-_, _*_, _/_, _%_, _≤_, _<_}
+use native.Mathlib.Nat.{div-add-mod', mod-lt, mul-mod-left, mul-div-cancel, zero-mul, sub-self, zero-add, mod-self}
 use native.Mathlib.Decide.{decLt}
 use native.Mathlib.Omega.{arith}
 use borrow.Author.Tests.{lt-ltb, le-ltb}
@@ -17,14 +17,14 @@ use Rattle.laws.proofs.Groups.{group-of, item-of}
 use Rattle.laws.proofs.Lists.{past-end}
 use Rattle.packets.specs.declared.Plan.{Plan}
 use Rattle.packets.specs.declared.Packets.{Packets}
-use Rattle.packets.specs.State.{geometry, tailAt, tailOf, sumsOf, stateAt, consistent, behind, most}
+use Rattle.packets.specs.State.{tailAt, tailOf, sumsOf, stateAt, consistent, behind, most}
 use Rattle.packets.specs.Promises.{noTail, completes, continuedAt, continued}
-use Rattle.packets.specs.Steps.{state, Feeds, Fed, BytesFeed, BytesFed, WordsFeed, WordsFed, Held, Begins}
+use Rattle.packets.specs.Steps.{state, Fed, BytesFeed, BytesFed, WordsFeed, WordsFed, Held, Begins}
 use Rattle.packets.proofs.Bytewise.{Sane, tail-none, same-words}
 use Rattle.packets.proofs.Agree.{sums-agree}
 use Rattle.packets.proofs.Behind.{Passed, passed, Shaped, sane-sound, behind-length, tail-behind, sums-behind}
 use Rattle.packets.proofs.Reaches.{state-passes}
-use Rattle.packets.proofs.Cut.{cut-state, cut-back, cut-long, completes-end}
+use Rattle.packets.proofs.Cut.{cut-state, cut-back, cut-long}
 
 module _ {p : Plan} {k : ℕ} {b tail sums old : List ℕ} (feed : BytesFeed p k b tail sums old) where
   abbrev pub st : Packets

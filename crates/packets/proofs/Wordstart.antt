@@ -1,5 +1,5 @@
 -- Bytes from a word's start on: whole words, and the bytes of a begun word. Assumes nothing.
-use mathlib.Core.Path.{_≡_, refl, sym, ap, _∙_}
+use mathlib.Core.Path.{_≡_, sym, ap, _∙_}
 use mathlib.Core.Bool.{true}
 use mathlib.Core.List.{List}
 use Prim.Native.Nat.{ℕ, _+_, _-_, _*_, _/_, _%_, _≤_, _<_}
@@ -16,7 +16,7 @@ use Rattle.packets.specs.State.{consistent}
 use Rattle.packets.specs.Promises.{noTail, completes}
 use Rattle.packets.specs.Steps.{state, BytesFeed, BytesFed, WordsFeed, WordsFed, FromWord, Begins}
 use Rattle.packets.proofs.Bytewise.{Sane}
-use Rattle.packets.proofs.Behind.{passed, sane-sound}
+use Rattle.packets.proofs.Behind.{passed}
 use Rattle.packets.proofs.Joins.{complete-words, front-feeds, back-feeds, quiet-feds}
 use Rattle.packets.proofs.Parts.{head-room}
 use Rattle.packets.proofs.Tails.{plan-sane, begin-fed}

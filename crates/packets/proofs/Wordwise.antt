@@ -1,6 +1,6 @@
 -- Whole words, after a strip of whole words: what is written of them if their samples are v, and the three ways in which they are. Assumes nothing.
-use mathlib.Core.Path.{_≡_, refl, sym, ap, _∙_}
-use mathlib.Core.Bool.{Bool, true, false, not}
+use mathlib.Core.Path.{_≡_, sym, ap, _∙_}
+use mathlib.Core.Bool.{true, false, not}
 use mathlib.Core.List.{List, _++_}
 use Prim.Native.Nat.{ℕ, _+_, _-_, _*_, _/_, _%_, _≤_, _<_}
 use native.Mathlib.Nat.{div-add-mod', add-mul, add-comm, add-mul-mod-self-right, add-mul-div-right, add-assoc, div-lt-iff-lt-mul, mod-eq-of-lt, mod-lt, mul-mod-left, zero-div}
@@ -8,7 +8,7 @@ use native.Mathlib.Omega.{arith}
 use borrow.Author.Tests.{not-false, eq-eqb, le-ltb}
 use lib.ListN.{length, getD, List·getD-append}
 use lib.Seq.{getD-append-add}
-use Rattle.answer.specs.Outcome.{pick, Sound, none, next}
+use Rattle.answer.specs.Outcome.{Sound, none, next}
 use Rattle.answer.specs.Table.{filled}
 use Rattle.answer.specs.declared.Done.{Done}
 use Rattle.answer.proofs.Filling.{filled-same, table-same}
@@ -22,9 +22,9 @@ use Rattle.samples.proofs.Sums.{sample-alone}
 use Rattle.samples.proofs.Rows.{same-samples}
 use Rattle.packets.specs.declared.Plan.{Plan}
 use Rattle.packets.specs.declared.Packets.{Packets}
-use Rattle.packets.specs.State.{geometry, perRow, sampleOf, sumAt, sumsOf, stateAt, behind, most}
+use Rattle.packets.specs.State.{geometry, perRow, sampleOf, sumAt, sumsOf, stateAt, behind}
 use Rattle.packets.specs.Promises.{noTail, noSums, completes, continuedAt}
-use Rattle.packets.specs.Steps.{state, Feeds, Fed, WordsFeed, WordsFed}
+use Rattle.packets.specs.Steps.{state, WordsFeed, WordsFed}
 use Rattle.packets.proofs.Bytewise.{Sane, row-some, tail-none, sums-none}
 use Rattle.packets.proofs.Agree.{sums-agree}
 use Rattle.packets.proofs.Behind.{Passed, passed, Shaped, sane-sound, row-place, behind-length, sums-behind}

@@ -1,15 +1,15 @@
 -- What is promised of a row that is taken up in its middle (rule 16.6): each sample is its word and the sum so far of its channel, whose place
 -- it takes. Assumes nothing.
-use Prim.Native.Nat.{ℕ, zero, suc, _+_, _*_, _/_, _%_, _≤_, _<_}
+use Prim.Native.Nat.{ℕ, zero, suc, _+_, _/_, _%_, _≤_, _<_}
 use mathlib.Core.Path.{_≡_}
 use mathlib.Core.Bool.{Bool, true, not}
 use mathlib.Core.List.{List, [], _∷_}
 use lib.Dec.{eqb, ltb}
 use lib.ListN.{length, getD, set}
 use Rattle.answer.specs.Outcome.{Fault, unless, unsupported, invalid, outputTooSmall, instead, Promise, doneOutcome}
-use Rattle.answer.specs.Table.{table, filled}
+use Rattle.answer.specs.Table.{table}
 use Rattle.answer.specs.declared.Done.{Done}
-use Rattle.words.specs.Word.{wordAt, plus}
+use Rattle.words.specs.Word.{plus}
 use Rattle.words.specs.Promises.{served}
 use Rattle.samples.specs.Sample.{wordOf, storedAt}
 

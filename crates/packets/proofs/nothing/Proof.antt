@@ -1,5 +1,4 @@
 -- `packets::nothing` meets its contract. Assumes nothing.
-use borrow.Author.Needs.{needs}
 use mathlib.Core.Path.{refl}
 use Rattle.packets.specs.Promises.{nowhere, noTail, noSums}
 use Rattle.packets.proofs.nothing.Statement.{statement}

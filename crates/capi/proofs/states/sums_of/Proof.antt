@@ -1,10 +1,9 @@
 -- `capi::states::sums_of` meets its contract: as far as the loop came, the sums stand there. Assumes nothing.
 use borrow.Author.Needs.{needs}
 use native.Mathlib.Omega.{arith}
-use mathlib.Core.Path.{_≡_, refl}
+use mathlib.Core.Path.{refl}
 use Prim.Native.Nat.{_+_, _-_}
 use lib.ListN.{getD}
-use Rattle.answer.proofs.Filling.{length-table}
 use Rattle.laws.proofs.Lists.{FilledTo, filled-none, filled-next}
 use Rattle.capi.proofs.Standing.{sums-all}
 use Rattle.capi.proofs.states.sums_of.Statement.{statement}

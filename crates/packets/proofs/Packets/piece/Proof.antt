@@ -11,7 +11,6 @@ use denote.Ref.{now}
 use Rattle.answer.specs.Outcome.{done, Sound, here, later, next, none}
 use Rattle.packets.specs.State.{consistent, most}
 use Rattle.packets.specs.Promises.{completes, pieceFaults}
-use Rattle.packets.proofs.Bytewise.{Sane}
 use Rattle.packets.proofs.Behind.{passed, sane-sound}
 use Rattle.packets.proofs.Cut.{completes-is}
 use Rattle.packets.proofs.Wordstart.{width-served}

@@ -1,5 +1,4 @@
 -- `packets::check::begun_channels` meets its contract. Assumes nothing.
-use borrow.Author.Needs.{needs}
 use borrow.Author.Tests.{lt-ltb, le-ltb, not-true, not-false}
 use Rattle.packets.proofs.check.begun_channels.Statement.{statement}
 use Rattle.packets.proofs.check.begun_channels.Tie as tie

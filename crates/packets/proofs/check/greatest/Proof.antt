@@ -1,6 +1,5 @@
 -- `packets::check::greatest` meets its contract: a width that is none of the first three is 8. Assumes nothing.
-use borrow.Author.Needs.{needs}
-use mathlib.Core.Path.{_≡_, refl}
+use mathlib.Core.Path.{_≡_}
 use Rattle.words.proofs.Served.{served-eight}
 use Rattle.packets.proofs.check.greatest.Statement.{statement}
 use Rattle.packets.proofs.check.greatest.Tie as tie

@@ -1,7 +1,7 @@
 -- `packets::check::passes` meets its contract: the tests are the check's, in its order. Assumes nothing.
 use borrow.Author.Needs.{needs}
 use borrow.Author.Tests.{lt-ltb, le-ltb, not-true, not-false}
-use mathlib.Core.Path.{_≡_, sym, ap, _∙_}
+use mathlib.Core.Path.{_≡_, sym, _∙_}
 use mathlib.Core.Bool.{true}
 use Prim.Native.Nat.{_/_, _%_}
 use Rattle.answer.specs.Outcome.{Sound}

@@ -1,5 +1,4 @@
 -- `packets::check::sum_right` meets its contract. Assumes nothing.
-use borrow.Author.Needs.{needs}
 use Rattle.packets.proofs.check.sum_right.Statement.{statement}
 use Rattle.packets.proofs.check.sum_right.Tie as tie
 

@@ -2,7 +2,7 @@
 use borrow.Author.Needs.{needs}
 use native.Mathlib.Omega.{arith}
 use mathlib.Core.Path.{_≡_, refl}
-use Prim.Native.Nat.{_+_, _-_, _≤_}
+use Prim.Native.Nat.{_-_, _≤_}
 use Rattle.laws.specs.Turns.{every}
 use Rattle.laws.proofs.Turns.{every-more}
 use Rattle.packets.specs.State.{tailRight}

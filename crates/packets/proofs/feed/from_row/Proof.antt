@@ -3,11 +3,9 @@ use borrow.Author.Needs.{needs}
 use native.Mathlib.Omega.{arith}
 use native.Mathlib.Nat.{mod-le}
 use Prim.Native.Nat.{_≤_}
-use mathlib.Core.Path.{_≡_}
 use lib.ListN.{length}
 use denote.Ref.{now}
 use Rattle.answer.proofs.Filling.{halfway}
-use Rattle.packets.specs.State.{most}
 use Rattle.packets.proofs.Wordwise.{is, words-room}
 use Rattle.packets.proofs.Joins.{same-words-out, both-words-fed}
 use Rattle.packets.proofs.Rowwise.{whole, whole-inside, whole-words, rows-first, rest-of-rows}

@@ -1,5 +1,4 @@
 -- `packets::feed::past` meets its contract: a width that is none of the first three is 8. Assumes nothing.
-use borrow.Author.Needs.{needs}
 use mathlib.Core.Path.{_≡_, sym}
 use native.Mathlib.Nat.{mod-one}
 use Rattle.words.proofs.Served.{served-eight}

@@ -1,5 +1,4 @@
 -- `packets::feed::whole` meets its contract: a width that is none of the first three is 8. Assumes nothing.
-use borrow.Author.Needs.{needs}
 use mathlib.Core.Path.{_≡_, sym}
 use native.Mathlib.Nat.{div-one}
 use Rattle.words.proofs.Served.{served-eight}

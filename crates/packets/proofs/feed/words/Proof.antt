@@ -1,7 +1,6 @@
 -- `packets::feed::words` meets its contract: with prediction row by row, without it in the asked order. Assumes nothing.
 use borrow.Author.Needs.{needs}
 use native.Mathlib.Omega.{arith}
-use mathlib.Core.Path.{_≡_}
 use denote.Ref.{now}
 use Rattle.words.specs.Word.{Bytes}
 use Rattle.packets.proofs.Wordwise.{plain-fed}

@@ -1,7 +1,6 @@
 -- `rows::resume::following` meets its contract. Assumes nothing.
 use borrow.Author.Needs.{needs}
 use borrow.Author.Tests.{eq-eqb, ne-eqb}
-use native.Mathlib.Omega.{arith}
 use Rattle.rows.proofs.resume.following.Statement.{statement}
 use Rattle.rows.proofs.resume.following.Tie as tie
 

@@ -1,5 +1,4 @@
 -- `rows::resume::words` meets its contract: the invariant and its laws are in proofs/Running.antt. Assumes nothing.
-use borrow.Author.Needs.{needs}
 use native.Mathlib.Omega.{arith}
 use Prim.Native.Nat.{_+_, _-_, _≤_, _<_}
 use denote.Ref.{now}
