@@ -32,7 +32,7 @@ stateOf s = record {
   sums = sumsIn s;
 }
 
--- number n is not used, and 0
+-- number 72 + j, which is not used, is 0
 abbrev pub unused : List ℕ → ℕ → Bool
 unused s j = eqb (getD s (72 + j) 0) 0
 

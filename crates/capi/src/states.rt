@@ -83,7 +83,7 @@ fn strays(s: &State) -> bool
     (1 < s[3]) | (1 < s[4]) | (1 < s[5]) | !none
 }
 
-// And back.
+// The number whose eight bytes these are.
 fn word_of(s: &[u8]) -> u64
     requires { ⌜ length (now s) ≡ 8 ⌝ }
     ensures { λ r. ⌜ (r ≡ value 256 8 (λ p. getD (now (s .entry)) p 0)) × Bytes (now (s .entry)) ⌝ }

@@ -16,7 +16,7 @@ use Rattle.words.proofs.Words.{word-same}
 use Rattle.samples.specs.Sample.{alone, wordOf}
 use Rattle.samples.proofs.Sums.{not-alone, sample-alone, sample-later}
 use Rattle.packets.specs.declared.Plan.{Plan}
-use Rattle.packets.specs.State.{geometry, perRow, sampleOf, latest, tailAt, sumAt, tailOf, sumsOf, stateAt}
+use Rattle.packets.specs.State.{geometry, perRow, sampleOf, latest, tailAt, sumAt, tailOf, sumsOf}
 use Rattle.packets.proofs.Bytewise.{runAt}
 use Rattle.packets.proofs.Bytewise.{Sane}
 
@@ -76,7 +76,3 @@ module _ (p : Plan) (sane : Sane p) (s t : List ℕ) (k : ℕ) (same : (i : ℕ)
   pub run-agrees : runAt p s k ≡ runAt p t k
   unfolding runAt
   run-agrees = rw (tail-agrees, sums-agree)
-
-  pub state-agrees : stateAt p s k ≡ stateAt p t k
-  unfolding stateAt
-  state-agrees = rw (tail-agrees, sums-agree)

@@ -11,7 +11,6 @@ use lib.ListN.{length, set}
 use Rattle.answer.specs.Outcome.{Outcome, instead, Sound, none, next}
 use Rattle.answer.specs.Table.{table, filled}
 use Rattle.answer.specs.declared.Done.{Done}
-use Rattle.answer.proofs.Filling.{length-filled}
 use Rattle.answer.proofs.Promised.{finished, sound-done}
 use Rattle.laws.proofs.Groups.{item-of, rest-of-rest}
 use Rattle.samples.specs.Sample.{wordOf}
@@ -135,6 +134,3 @@ module _ {p : Plan} {k : ℕ} {a sums old : List ℕ} (row : RowWords p k a sums
     row-over e c =
         let long : length then ≡ 64 = row-long ∙ feed .feeds .sums in
         words-fed feed sample-of sample-is wrote (c ∙ ap (λ (m : ℕ). table m (λ j. 0)) long ∙ sym (over-sums e))
-
-    pub row-stays : length new ≡ length old
-    row-stays = ap length wrote ∙ length-filled (length a) _ old (words-room feed)

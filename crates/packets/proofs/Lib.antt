@@ -6,9 +6,9 @@ pub mod Behind
 pub mod Answers
 pub mod Future
 pub mod Reaches
+pub mod Cut
 pub mod Pieces
 pub mod Determined
-pub mod Cut
 pub mod Parts
 pub mod Wordwise
 pub mod Inrow

@@ -1,13 +1,12 @@
 -- `pieces-convert` and `cut-anywhere`. Assumes nothing.
 use mathlib.Core.Path.{_≡_, refl, sym, ap, _∙_, subst}
 use mathlib.Core.Bool.{true, not}
-use mathlib.Core.List.{List, _++_, append-assoc}
+use mathlib.Core.List.{List, _++_}
 use Prim.Native.Nat.{ℕ, _+_, _-_, _*_, _/_, _%_, _≤_}
-use native.Mathlib.Nat.{zero-div, zero-mul, mul-comm, mul-sub, mul-le-mul-right, div-add-mod', div-lt-iff-lt-mul}
+use native.Mathlib.Nat.{zero-div, zero-mul, div-add-mod', div-lt-iff-lt-mul}
 use native.Mathlib.Omega.{arith}
 use borrow.Author.Tests.{le-ltb, eqb-true, eq-eqb, not-false}
 use lib.Dec.{eqb}
-use lib.Seq.{drop-append-seam}
 use lib.ListN.{length, take, drop, length-append, List·getD-append}
 use Rattle.answer.specs.Outcome.{Outcome, done, unless, Sound, next, none, Promise}
 use Rattle.answer.specs.Table.{table}
@@ -24,11 +23,11 @@ use Rattle.packets.specs.declared.Stepped.{Stepped}
 use Rattle.packets.specs.declared.Plan.{Plan}
 use Rattle.packets.specs.State.{geometry, sampleOf, stateAt, consistent, behind, most}
 use Rattle.packets.specs.Promises.{wroteOutcome, Took, Closed, closeFaults, pieceFaults, completes, continuedAt, continued, joined, Reached, Streamed, opened, fed}
-use Rattle.laws.proofs.Groups.{more-groups}
 use Rattle.packets.proofs.Bytewise.{Sane}
 use Rattle.packets.proofs.Agree.{sample-agrees}
-use Rattle.packets.proofs.Behind.{sane-sound}
+use Rattle.packets.proofs.Behind.{Passed, Shaped, sane-sound}
 use Rattle.packets.proofs.Behind as B
+use Rattle.packets.proofs.Cut.{completes-end, cut-state, cut-front, cut-back, cut-long}
 use Rattle.packets.proofs.Future.{continued-any, continued-at-any}
 use Rattle.packets.proofs.Reaches.{History, history-on, history-passes, history-shaped, history, begun-state, bytes-join, took-state, took-fits}
 
@@ -61,13 +60,6 @@ module _ (st : Packets) (h : History st) (piece : List ℕ) where
   same : Sane p
   same = sane-sound p (h .sound)
 
-  ends : k / W * W + completes st (length piece) ≡ (k + length piece) / W * W
-  ends =
-      let a = k / W in
-      let b = (k + length piece) / W in
-      let more : a ≤ b = more-groups k (k + length piece) W (same .good .wide) (omega arith) in
-      omega (arith, mul-comm (b - a) W, mul-sub W b a, mul-comm W b, mul-comm W a, mul-le-mul-right W more)
-
   -- put behind what was written of the history, it is what is written of the whole
   pub written-on : storedUpto p (h .came) k ++ written ≡ storedUpto p (h .came ++ piece) (k + length piece)
   written-on =
@@ -75,7 +67,7 @@ module _ (st : Packets) (h : History st) (piece : List ℕ) where
       let front : storedUpto p (h .came) k ≡ table (k / W * W) f = sym (rw (h .long) at (stored-stays p same (h .came) piece)) in
       let back : written ≡ table (completes st (length piece)) (λ i. f (k / W * W + i)) =
       table-same (completes st (length piece)) (continuedAt st piece) (λ i. f (k / W * W + i)) (continued-at-any st (B.passed st (history-passes st h)) (history-shaped st h) (h .came) (h .leads) (h .long) piece) in
-      rw (front, back) (table-join (k / W * W) (completes st (length piece)) f ∙ ap (λ (n : ℕ). table n f) ends)
+      rw (front, back) (table-join (k / W * W) (completes st (length piece)) f ∙ ap (λ (n : ℕ). table n f) (completes-end st (same .good .wide) (length piece)))
 
 -- what a piece writes in a state
 abbrev pub writtenBy : Packets → List ℕ → List ℕ
@@ -97,32 +89,6 @@ module _ (p : Plan) (sound : Sound (stripFaults 0 (geometry p))) where
       let h : History st = record { came = s; bytes = b; sound = sound; short = short; long = refl; leads = refl } in
       written-on st h piece ∙ ap (storedUpto p (s ++ piece)) (sym (length-append s piece))
 
-  module _ (s : List ℕ) (bytes : Bytes s) (a : List ℕ) (more : Bytes a) (short : length s + length a ≤ most) (b : List ℕ) where
-    joined-bytes : Bytes (s ++ a)
-    joined-bytes = bytes-join s a bytes more
-
-    less : length s ≤ most
-    less = omega arith
-
-    both-short : length (s ++ a) ≤ most
-    both-short = rw (length-append s a) short
-
-    cut-state : continued (continued (stateAt p s (length s)) a) b ≡ continued (stateAt p s (length s)) (a ++ b)
-    cut-state =
-        rw (after-state s bytes less a, after-state (s ++ a) joined-bytes both-short b, after-state s bytes less (a ++ b), append-assoc s a b)
-
-    cut-written : writtenBy (stateAt p s (length s)) (a ++ b) ≡ writtenBy (stateAt p s (length s)) a ++ writtenBy (continued (stateAt p s (length s)) a) b
-    cut-written =
-        let x = storedUpto p s (length s) in
-        let st = stateAt p s (length s) in
-        let one : x ++ writtenBy st (a ++ b) ≡ storedUpto p (s ++ (a ++ b)) (length (s ++ (a ++ b))) = after-written s bytes less (a ++ b) in
-        let two : x ++ (writtenBy st a ++ writtenBy (continued st a) b) ≡ storedUpto p ((s ++ a) ++ b) (length ((s ++ a) ++ b)) =
-        sym (append-assoc x (writtenBy st a) (writtenBy (continued st a) b))
-        ∙ rw (after-written s bytes less a, after-state s bytes less a) (after-written (s ++ a) joined-bytes both-short b) in
-        sym (drop-append-seam x (writtenBy st (a ++ b)))
-        ∙ ap (drop (length x)) (one ∙ ap (λ (l : List ℕ). storedUpto p l (length l)) (sym (append-assoc s a b)) ∙ sym two)
-        ∙ drop-append-seam x (writtenBy st a ++ writtenBy (continued st a) b)
-
 -- what a call that did not refuse wrote
 pub took-written : {st : Packets} {piece old new : List ℕ} {r : Stepped} {n : ℕ} → Took st piece old r new → wroteOutcome (r .answer) ≡ done n → take n new ≡ writtenBy st piece
 took-written {st} {piece} {old} {new} {r} {n} t e =
@@ -141,19 +107,27 @@ rows-whole : (p : Plan) (s : List ℕ) (st : Packets) → st ≡ stateAt p s (le
 unfolding stateAt
 rows-whole p s st e h = rw e at h
 
+-- what a piece writes is what its parts write
+module _ (st : Packets) (ok : Passed st) (shaped : Shaped st) (a b : List ℕ) (fits : st .received + length a ≤ most) where
+  cut-written : writtenBy st (a ++ b) ≡ writtenBy st a ++ writtenBy (continued st a) b
+  cut-written =
+      let f = continuedAt st (a ++ b) in
+      let n = completes st (length a) in
+      let m = completes (continued st a) (length b) in
+      let front : writtenBy st a ≡ table n f = table-same n (continuedAt st a) f (cut-front st ok shaped a b fits) in
+      let back : writtenBy (continued st a) b ≡ table m (λ i. f (n + i)) = table-same m (continuedAt (continued st a) b) (λ i. f (n + i)) (cut-back st ok shaped a b fits) in
+      rw (front, back) (sym (table-join n m f ∙ ap (λ (x : ℕ). table x f) (cut-long st ok shaped a b fits)))
+
 -- of three calls that did not refuse
-cut-done : {st : Packets} {a b old new old₁ new₁ old₂ new₂ : List ℕ} {r r₁ r₂ : Stepped} {n n₁ n₂ : ℕ} → Reached st → Bytes a → Took st (a ++ b) old r new → wroteOutcome (r .answer) ≡ done n → Took st a old₁ r₁ new₁ → wroteOutcome (r₁ .answer) ≡ done n₁ → Took (r₁ .state) b old₂ r₂ new₂ → wroteOutcome (r₂ .answer) ≡ done n₂ → (r .state ≡ r₂ .state) × (take n new ≡ take n₁ new₁ ++ take n₂ new₂)
-cut-done {st} {a} {b} {old} {new} {old₁} {new₁} {old₂} {new₂} {r} {r₁} {r₂} {n} {n₁} {n₂} reached bytes t e t₁ e₁ t₂ e₂ =
+cut-done : {st : Packets} {a b old new old₁ new₁ old₂ new₂ : List ℕ} {r r₁ r₂ : Stepped} {n n₁ n₂ : ℕ} → Reached st → Took st (a ++ b) old r new → wroteOutcome (r .answer) ≡ done n → Took st a old₁ r₁ new₁ → wroteOutcome (r₁ .answer) ≡ done n₁ → Took (r₁ .state) b old₂ r₂ new₂ → wroteOutcome (r₂ .answer) ≡ done n₂ → (r .state ≡ r₂ .state) × (take n new ≡ take n₁ new₁ ++ take n₂ new₂)
+cut-done {st} {a} {b} {old₁ = old₁} reached t e t₁ e₁ t₂ e₂ =
     let h = history reached in
-    let p = st .plan in
-    let s = h .came in
-    let is : st ≡ stateAt p s (length s) = sym (h .leads) ∙ ap (stateAt p s) (sym (h .long)) in
-    let fits : length s + length a ≤ most = rw (h .long) (took-fits st a old₁ (took-state t₁ e₁ .0)) in
-    let state₁ = took-state t₁ e₁ .1 in
-    let cut : continued (continued st a) b ≡ continued st (a ++ b) = subst (λ (x : Packets). continued (continued x a) b ≡ continued x (a ++ b)) (sym is) (cut-state p (h .sound) s (h .bytes) a bytes fits b) in
-    let wrote : writtenBy st (a ++ b) ≡ writtenBy st a ++ writtenBy (continued st a) b = subst (λ (x : Packets). writtenBy x (a ++ b) ≡ writtenBy x a ++ writtenBy (continued x a) b) (sym is) (cut-written p (h .sound) s (h .bytes) a bytes fits b) in (
-      took-state t e .1 ∙ sym cut ∙ ap (λ (x : Packets). continued x b) (sym state₁) ∙ sym (took-state t₂ e₂ .1),
-      took-written t e ∙ wrote ∙ rw (took-written t₁ e₁, took-written t₂ e₂, state₁),
+    let ok = B.passed st (history-passes st h) in
+    let shaped = history-shaped st h in
+    let fits = took-fits st a old₁ (took-state t₁ e₁ .0) in
+    let state₁ = took-state t₁ e₁ .1 in (
+      took-state t e .1 ∙ sym (cut-state st ok shaped a b fits) ∙ ap (λ (x : Packets). continued x b) (sym state₁) ∙ sym (took-state t₂ e₂ .1),
+      took-written t e ∙ cut-written st ok shaped a b fits ∙ rw (took-written t₁ e₁, took-written t₂ e₂, state₁),
     )
 
 -- a call on a state that passes the check, within the limit and with room, does not refuse
@@ -185,7 +159,7 @@ cut-anywhere {st} {a} {b} reached bytes fits t room t₁ room₁ t₂ room₂ =
     let there = took-state t₁ e₁ .1 in
     let next-passes = ap consistent there ∙ history-passes _ (history-on st h a bytes first-fits) in
     let e₂ = taken t₂ next-passes (later-fits st _ a b there fits) room₂ in
-    let same = cut-done reached bytes t e t₁ e₁ t₂ e₂ in
+    let same = cut-done reached t e t₁ e₁ t₂ e₂ in
     record { whole-taken = e; first-taken = e₁; second-taken = e₂; same-state = same .0; same-bytes = same .1 }
 
 -- what has come and been written so far

@@ -85,7 +85,7 @@ consistent st =
     && sumsRight (st .sums) (st .plan .width) (live st)))
 
 -- a strip that leads to a state that passes the check: every row begins with the sums and goes on with zeros, and the tail stands at the end.
--- (`behind-leads` says so; `same-future` that it does not matter which such strip is taken.)
+-- (`behind-leads` says so; proofs/Future.antt that it does not matter which such strip is taken.)
 unfoldable pub behind : Packets → List ℕ
 behind st =
     table (st .received) (λ k.

@@ -4,7 +4,7 @@ use crate::feed;
 use answer::Done;
 ghost use mathlib.Core.Path.{_≡_};
 ghost use mathlib.Core.Bool.{true, _||_};
-ghost use Prim.Native.Nat.{_+_, _%_};
+ghost use Prim.Native.Nat.{_+_};
 ghost use lib.Dec.{eqb, ltb, leb};
 ghost use Rattle.answer.specs.Outcome.{pick};
 ghost use Rattle.words.specs.Word.{modulus};
