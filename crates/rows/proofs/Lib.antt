@@ -4,3 +4,4 @@ pub mod Rows
 pub mod Determined
 pub mod Resumed
 pub mod Running
+pub mod Joining

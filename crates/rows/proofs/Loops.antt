@@ -22,7 +22,7 @@ use Rattle.samples.proofs.Sums.{sample-alone, sample-later, difference-later}
 use Rattle.samples.proofs.Stored.{stored-byte}
 use Rattle.samples.proofs.Undo.{sample-below}
 use Rattle.words.specs.Promises.{served}
-use Rattle.rows.specs.Row.{oneRow, RowFits, HeldFits, Led, meantAt, resumed, ResumedInto}
+use Rattle.rows.specs.Row.{oneRow, RowFits, HeldFits, FewFit, Led, meantAt, resumed, ResumedInto}
 use Rattle.laws.proofs.Lists.{nothing, zeros}
 
 -- the buffer holds the words v, stored, up to `at`, of n bytes in all
@@ -116,18 +116,13 @@ resumed-more raw channels width le out-le start more old some enough =
     ap (λ (s : ℕ). digit 256 (ordered out-le width (k % width)) (plus width (sample (oneRow raw channels width) true le raw (k / width)) s))
     (sym (List·getD-append start more 0 (k / width % channels) (omega (arith, mod-lt (k / width) some)))))
 
--- a row whose channels' sums are held: it fits the loop of so many, and what that comes to is meant
-module _ {least : ℕ} {raw : List ℕ} {channels width : ℕ} {old : List ℕ} (held : HeldFits least raw channels width old) where
-  -- not the least: then one more
-  pub held-more : (channels ≡ least → ⊥) → channels ≡ least + 1
-  held-more e = omega (arith, held .enough, held .few, e)
+-- a row of at most four channels fits the loop of so many
+pub few-fits : {raw : List ℕ} {channels width : ℕ} {start old : List ℕ} {n : ℕ} → FewFit raw channels width start old → channels ≡ n → HeldFits raw n width start old
+few-fits row e = rw e at (row .row)
 
-  module _ {n : ℕ} (e : channels ≡ n) where
-    pub held-fits : (served width ≡ true) × RowFits raw n width old
-    held-fits = (held .takes, rw e at (held .fits))
-
-    pub held-all : (le out-le : Bool) (start more new : List ℕ) → n ≤ length start → ResumedInto raw n width le out-le start old new → ResumedInto raw channels width le out-le (start ++ more) old new
-    held-all le out-le start more new enough is = rw e (is ∙ resumed-more raw n width le out-le start more old (held-fits .1 .channel) enough)
+-- a row at a width by another name
+pub known-fits : {raw : List ℕ} {channels width : ℕ} {start old : List ℕ} {known : ℕ} → width ≡ known → HeldFits raw channels width start old → HeldFits raw channels known start old
+known-fits e row = rw e at row
 
 -- a row whose channels' sums are carried along, from any start
 module _ (le : Bool) (start : List ℕ) {raw : List ℕ} {channels width : ℕ} {out-le : Bool} {old : List ℕ} {at : ℕ} {out : List ℕ} (fits : RowFits raw channels width old) (is : Upto (resumed raw channels width le start) width out-le (length raw) old at out) where

@@ -1,15 +1,15 @@
 -- What is promised of a row that is taken up in its middle (rule 16.6): each sample is its word and the sum so far of its channel, whose place
 -- it takes. Assumes nothing.
-use Prim.Native.Nat.{ℕ, zero, suc, _+_, _/_, _%_, _≤_, _<_}
+use Prim.Native.Nat.{ℕ, zero, suc, _+_, _*_, _/_, _%_, _≤_, _<_}
 use mathlib.Core.Path.{_≡_}
 use mathlib.Core.Bool.{Bool, true, not}
 use mathlib.Core.List.{List, [], _∷_}
 use lib.Dec.{eqb, ltb}
 use lib.ListN.{length, getD, set}
 use Rattle.answer.specs.Outcome.{Fault, unless, unsupported, invalid, outputTooSmall, instead, Promise, doneOutcome}
-use Rattle.answer.specs.Table.{table}
+use Rattle.answer.specs.Table.{table, filled}
 use Rattle.answer.specs.declared.Done.{Done}
-use Rattle.words.specs.Word.{plus}
+use Rattle.words.specs.Word.{wordAt, plus}
 use Rattle.words.specs.Promises.{served}
 use Rattle.samples.specs.Sample.{wordOf, storedAt}
 
@@ -43,7 +43,7 @@ pub record RowResumed (raw : List ℕ) (first channels width : ℕ) (le out-le :
   pub writes : Promise (unless (resumeFaults raw first channels width start old) tt) (table (length raw) (resumedAt raw first channels width le out-le start)) old (doneOutcome answer) new
   pub sums : after ≡ instead (unless (resumeFaults raw first channels width start old) (tt {0})) (sumsAfter first channels width (wordOf width le raw) start (length raw / width)) start
 
--- what the loop over such words needs, and what it does
+-- what the private functions need of such words, and what they do
 pub record RunFits (raw : List ℕ) (first channels width : ℕ) (sums out : List ℕ) : Type 0 where
   pub takes : served width ≡ true
   pub here : first < channels
@@ -55,3 +55,18 @@ pub record RunFits (raw : List ℕ) (first channels width : ℕ) (sums out : Lis
 pub record RanInto (raw : List ℕ) (first channels width : ℕ) (le out-le : Bool) (start after new : List ℕ) : Type 0 where
   pub sums : after ≡ sumsAfter first channels width (wordOf width le raw) start (length raw / width)
   pub wrote : new ≡ table (length raw) (resumedAt raw first channels width le out-le start)
+
+-- whole pixels
+pub record PixelsFit (raw : List ℕ) (channels width : ℕ) (sums out : List ℕ) : Type 0 where
+  pub run : RunFits raw 0 channels width sums out
+  pub pixels : length raw % (channels * width) ≡ 0
+
+-- the last pixel of a row's bytes is read back into the sums
+pub record LastFits (out : List ℕ) (at channels width : ℕ) (sums : List ℕ) : Type 0 where
+  pub takes : served width ≡ true
+  pub inside : at + channels * width ≤ length out
+  pub held : channels ≤ 64
+  pub long : 64 ≤ length sums
+
+abbrev pub Held : List ℕ → ℕ → ℕ → ℕ → Bool → List ℕ → List ℕ → Type 0
+Held out at channels width out-le old new = new ≡ filled channels (λ j. wordAt out (at + j * width) width out-le) old

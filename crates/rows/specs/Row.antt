@@ -65,12 +65,16 @@ pub record Led (f : ℕ → ℕ) (raw : List ℕ) (channels width : ℕ) (out : 
   pub step : channels * width ≤ length raw
   pub front : take (channels * width) out ≡ table (channels * width) f
 
--- a row of `least` channels or one more, whose sums are held in locals
-pub record HeldFits (least : ℕ) (raw : List ℕ) (channels width : ℕ) (out : List ℕ) : Type 0 where
+-- a row whose channels start from sums that are lent
+pub record HeldFits (raw : List ℕ) (channels width : ℕ) (start out : List ℕ) : Type 0 where
   pub takes : served width ≡ true
   pub fits : RowFits raw channels width out
-  pub enough : least ≤ channels
-  pub few : channels ≤ least + 1
+  pub held : channels ≤ length start
+
+-- and that has at most four of them
+pub record FewFit (raw : List ℕ) (channels width : ℕ) (start out : List ℕ) : Type 0 where
+  pub row : HeldFits raw channels width start out
+  pub few : channels ≤ 4
 
 -- what is known of a row past every refusal
 pub record RowServed (raw : List ℕ) (channels width : ℕ) (out : List ℕ) : Type 0 where

@@ -1,14 +1,13 @@
 // A strip's rows, predicted or with prediction undone: each kind of row in a loop of its own, for every width and both byte orders.
 mod differences;
+mod few;
 mod fours;
-mod narrow;
 mod resume;
 mod steps;
 mod sums;
 mod threes;
 mod trails;
 mod twos;
-mod wide;
 mod word;
 
 use answer::Done;
@@ -48,10 +47,9 @@ fn transform_words(
         if forward | (4 < channels) {
             lead(raw, channels * width, width, le, out_le, out);
             steps::steps(raw, channels, width, le, out_le, forward, out)
-        } else if channels < 3 {
-            narrow::narrow(raw, channels, width, le, out_le, 0, 0, out)
         } else {
-            wide::wide(raw, channels, width, le, out_le, 0, 0, 0, 0, out)
+            let none = [0u64; 4];
+            few::few(raw, channels, width, le, out_le, &none, out)
         }
     } else {
         samples::reorder(raw, width, le, out_le, out);
@@ -179,7 +177,7 @@ pub fn resume_row(
     }
     let start: usize = 0;
     let end = raw.len();
-    resume::words(
+    resume::run(
         raw,
         first,
         channels,

@@ -14,7 +14,7 @@ use Rattle.words.specs.Promises.{served}
 use Rattle.words.proofs.Served.{served-some}
 use Rattle.laws.proofs.Faults.{Past, past-none, past-one}
 use Rattle.rows.specs.Resume.{resumeFaults, RunFits}
-use Rattle.rows.proofs.Running.{resume-refused, resume-done}
+use Rattle.rows.proofs.Joining.{resume-refused, resume-done}
 use Rattle.rows.proofs.resume_row.Statement.{statement}
 use Rattle.rows.proofs.resume_row.Tie as tie
 
@@ -78,4 +78,4 @@ resume-row-spec =
     (λ c κs. fits (c .before .before))
     (λ c. search needs)
     (λ c. search needs)
-    (λ c. let gone = c .before .before .before .before in resume-done (sound (gone .before .before .before)) (gone .words .ensures)))
+    (λ c. let gone = c .before .before .before .before in resume-done (sound (gone .before .before .before)) (gone .run .ensures)))

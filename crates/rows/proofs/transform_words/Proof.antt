@@ -2,7 +2,7 @@
 -- Assumes nothing.
 use borrow.Author.Needs.{needs}
 use native.Mathlib.Omega.{arith}
-use mathlib.Core.Path.{_≡_, _∙_}
+use mathlib.Core.Path.{_≡_, refl, _∙_}
 use mathlib.Core.Bool.{false}
 use Prim.Native.Nat.{_≤_}
 use borrow.Author.Tests.{ltb-false}
@@ -24,8 +24,8 @@ abbrev known : (c : tie.After-lead) → tie.After-shared-slice-known
 known c = c .before .before .before .before .before
 
 -- neither forward nor more than four channels
-few : (c : tie.Else2) → (c .before .before .before .before .args .forward ≡ false) × (c .before .before .before .before .args .channels ≤ 4)
-few c = let is = neither _ _ (c .if2 .left) in (is .0, ltb-false _ _ (is .1))
+at-most-four : (c : tie.Else2) → (c .before .before .before .before .args .forward ≡ false) × (c .before .before .before .before .args .channels ≤ 4)
+at-most-four c = let is = neither _ _ (c .if2 .left) in (is .0, ltb-false _ _ (is .1))
 
 pub transform-words-spec : {M : Type 1} → statement M
 transform-words-spec =
@@ -38,14 +38,12 @@ transform-words-spec =
     let start = known led .before in
     let args = start .args in
     (start .pre .takes, lead-on (now (args .raw)) (bytes (known led)) (args .channels) (args .width) (args .le) (args .out-le) (args .forward) (now (args .out)) _ (start .pre) (led .lead .ensures)))
+    (λ c. refl)
     (λ c κs.
-    let arm = c .before in
-    let pre = arm .before .before .before .before .before .pre in
-    record { takes = pre .takes; fits = pre .fits; enough = pre .fits .channel; few = omega (arith, arm .if3 .taken) })
-    (λ c κs.
-    let arm = c .before in
-    let pre = arm .before .before .before .before .before .pre in
-    record { takes = pre .takes; fits = pre .fits; enough = omega (arith, arm .if3 .left); few = few (arm .before) .1 })
+    let arm = c .before .before in
+    let pre = arm .before .before .before .before .pre in
+    let most = at-most-four arm .1 in
+    record { row = record { takes = pre .takes; fits = pre .fits; held = most }; few = most })
     (λ c κs. search needs) (λ c. search needs)
     (λ c.
     let gone = c .before .before in
@@ -59,14 +57,7 @@ transform-words-spec =
     let arm = summed .before .before .before in
     let start = arm .before .before .before .before in
     let args = start .args in
-    rw (arm .before .if1 .taken, few arm .0) (summed .narrow .ensures ∙ resumed-none (now (args .raw)) (args .channels) (args .width) (args .le) (args .out-le) (now (args .out)) 2 (start .pre .fits .channel)))
-    (λ c. search needs)
-    (λ c.
-    let summed = c .before .before in
-    let arm = summed .before .before .before in
-    let start = arm .before .before .before .before in
-    let args = start .args in
-    rw (arm .before .if1 .taken, few arm .0) (summed .wide .ensures ∙ resumed-none (now (args .raw)) (args .channels) (args .width) (args .le) (args .out-le) (now (args .out)) 4 (start .pre .fits .channel)))
+    rw (arm .before .if1 .taken, at-most-four arm .0) (summed .few .ensures ∙ resumed-none (now (args .raw)) (args .channels) (args .width) (args .le) (args .out-le) (now (args .out)) 4 (start .pre .fits .channel)))
     (λ c. search needs)
     (λ c.
     let gone = c .before .before in

@@ -1,55 +1,38 @@
--- `rows::sums::sums` meets its contract, at every width: what is stored up to `at` are the samples, and the local is the sum so far.
--- Assumes nothing.
+-- `rows::sums::sums` meets its contract: every arm is `sums_of`, the last of them at the width that is left. Assumes nothing.
 use borrow.Author.Needs.{needs}
-use native.Mathlib.Omega.{arith}
-use Prim.Native.Nat.{_+_, _-_, _/_, _≤_}
 use mathlib.Core.Path.{_≡_}
-use mathlib.Core.List.{[], _∷_}
-use lib.ListN.{length}
-use denote.Ref.{now}
-use Rattle.rows.specs.Row.{resumed}
-use Rattle.rows.proofs.Loops.{Upto, upto-none, carried, carried-start, sum-room, next-sum, ended}
+use Rattle.words.proofs.Served.{served-eight}
+use Rattle.rows.proofs.Loops.{known-fits}
 use Rattle.rows.proofs.sums.sums.Statement.{statement}
 use Rattle.rows.proofs.sums.sums.Tie as tie
 
-abbrev Inv-loop : tie.InvT-loop
-Inv-loop raw width le out-le start out₀ sum₀ at₀ out sum at =
-    let from = start ∷ [] in
-    Upto (resumed raw 1 width le from) width out-le (length raw) out₀ at out
-    × (sum ≡ carried raw 1 width le from (at / width))
+abbrev start : tie.Else6 → tie.Start
+start c = c .before .before .before .before .before .before
 
-abbrev μ-loop : tie.MeasureT-loop
-μ-loop raw width le out-le start out₀ sum₀ at₀ out sum at = length raw - at
-
-abbrev start : (c : tie.In-loop Inv-loop μ-loop) → tie.Start Inv-loop μ-loop
-start c = c .before .before .before .before
-
--- the turn that stored this
-abbrev turn : (c : tie.After-put Inv-loop μ-loop) → tie.In-loop Inv-loop μ-loop
-turn c = c .before .before .before
-
--- a whole word is there
-room : (c : tie.In-loop Inv-loop μ-loop) → c .before .loop .at + start c .args .width ≤ length (now (start c .args .raw))
-room c = sum-room (start c .args .le) (start c .args .start ∷ []) (start c .pre .1) (c .before .loop .inv .0) (c .loop-test .taken)
+-- the width that is left
+eight : (c : tie.Else6) → start c .args .width ≡ 8
+eight c = served-eight _ (start c .pre .takes) (c .before .before .if1 .left) (c .before .if2 .left) (c .if6 .left)
 
 pub sums-spec : {M : Type 1} → statement M
 sums-spec =
     tie.close
     (tie.spec
-    Inv-loop
-    μ-loop
-    (λ c. (upto-none _ _ _ _ _, carried-start _ 1 _ _ _ 0 _ (c .before .before .pre .1 .wide) (omega arith) (omega arith)))
-    (λ c κs. (start c .pre .0, omega (arith, room c)))
-    (λ c κs.
-    let in-loop = c .before .before in
-    (start in-loop .pre .0, omega (arith, room in-loop, in-loop .before .loop .inv .0 .same, start in-loop .pre .1 .room)))
-    (λ c. let in-loop = turn (c .before .before) in omega (arith, room in-loop, start in-loop .good))
-    (λ c. let in-loop = turn (c .before .before) in omega (arith, room in-loop, start in-loop .pre .1 .wide))
-    (λ c.
-    let stored = c .before .before in
-    let in-loop = turn stored in
-    let args = start in-loop .args in
-    let at = in-loop .before .loop in
-    next-sum (args .le) (args .start ∷ []) (start in-loop .pre .1) (at .inv .0) (in-loop .loop-test .taken) (at .inv .1) (stored .before .before .sum .ensures) (stored .put .ensures) _ (omega arith))
+    (λ c κs. search needs) (λ c κs. search needs) (λ c κs. search needs) (λ c κs. search needs) (λ c κs. search needs)
+    (λ c κs. search needs) (λ c κs. search needs) (λ c κs. search needs) (λ c κs. search needs)
+    (λ c κs. let left = c .before .before .before in known-fits (eight left) (start left .pre))
+    (λ c κs. let left = c .before .before .before in known-fits (eight left) (start left .pre))
+    (λ c κs. let left = c .before .before .before in known-fits (eight left) (start left .pre))
+    (λ c κs. let left = c .before .before .before in known-fits (eight left) (start left .pre))
+    (λ c. search needs) (λ c. search needs)    (λ c. search needs) (λ c. search needs)
+    (λ c. search needs) (λ c. search needs)    (λ c. search needs) (λ c. search needs)
+    (λ c. search needs) (λ c. search needs)    (λ c. search needs) (λ c. search needs)
+    (λ c. search needs) (λ c. search needs)    (λ c. search needs) (λ c. search needs)
+    (λ c. search needs) (λ c. search needs)
     (λ c. search needs)
-    (λ c. ended (c .before .loop .inv .0) (c .loop-test .left)))
+    (λ c. let done = c .before .before in rw (eight (done .before .before .before .before)) (done .sums-of10 .ensures))
+    (λ c. search needs)
+    (λ c. let done = c .before .before in rw (eight (done .before .before .before .before)) (done .sums-of11 .ensures))
+    (λ c. search needs)
+    (λ c. let done = c .before .before in rw (eight (done .before .before .before .before)) (done .sums-of12 .ensures))
+    (λ c. search needs)
+    (λ c. let done = c .before .before in rw (eight (done .before .before .before .before)) (done .sums-of13 .ensures)))
