@@ -33,12 +33,12 @@ use Rattle.files.specs.File.{writtenOutcome, Measured, FileWritten}
 use Rattle.files.proofs.Determined.{file-length-determined, write-file-determined}
 use Rattle.packets.specs.declared.Plan.{Plan}
 use Rattle.packets.specs.declared.Started.{Started}
-use Rattle.packets.specs.declared.Stepped.{Stepped}
 use Rattle.packets.specs.Promises.{wroteOutcome}
-use Rattle.packets.proofs.Determined.{start-determined, piece-determined, close-determined}
-use Rattle.capi.specs.OnStates.{stateOf, strays, Stands, StartTold, PieceTold, PieceOf, CloseOf}
-use Rattle.capi.proofs.Standing.{Numbers, stands-once}
-use Rattle.capi.specs.Told.{status, lent, derivedOutcome, Told, Lent}
+use Rattle.packets.proofs.Determined.{start-determined}
+use Rattle.packet_numbers.specs.Numbers.{Stands, PieceOn, CloseOn}
+use Rattle.packet_numbers.proofs.Standing.{Numbers, stands-once}
+use Rattle.packet_numbers.proofs.Determined.{piece-determined, close-determined}
+use Rattle.capi.specs.Told.{status, lent, derivedOutcome, Told, Lent, StartTold}
 use Rattle.capi.specs.OnLayouts.{fieldsOf, flagged, OnLayout, RefusedUnserved}
 
 -- where two allowed answers are the same, and E follows besides, so are the numbers and what is lent back
@@ -130,35 +130,8 @@ hamrisk-packets-start-determined p r s x y nx ny t u =
     let one = start-determined p (t .answer) (u .answer) (t .allowed) (u .allowed) in
     (t .number-is ∙ ap (λ (a : Started). status (doneOutcome (a .answer))) one ∙ sym (u .number-is), stands-once nx ny (t .stands) (subst (λ (a : Started). Stands (a .state) y) (sym one) (u .stands)))
 
-module _ (state piece old : List ℕ) (written r s m n : ℕ) (v w x y : List ℕ) (nv : Numbers v) (nw : Numbers w) where
-  piece-once : PieceTold state piece old written r v x m → PieceTold state piece old written s w y n → (r ≡ s) × ((v ≡ w) × ((x ≡ y) × (m ≡ n)))
-  piece-once t u =
-      let one = piece-determined (stateOf state) piece old (t .answer) (u .answer) x y (t .allowed) (u .allowed) in
-      let same : r ≡ s = t .number-is ∙ ap (λ (a : Stepped). status (wroteOutcome (a .answer))) (one .0) ∙ sym (u .number-is) in
-      (same, (by same (ℕ-discrete r 0), (one .1, t .written-is ∙ ap (λ (a : Stepped). lent (wroteOutcome (a .answer)) written) (one .0) ∙ sym (u .written-is))))
-    where
-      by : r ≡ s → Dec (r ≡ 0) → v ≡ w
-      by same (yes z) =
-          let one = piece-determined (stateOf state) piece old (t .answer) (u .answer) x y (t .allowed) (u .allowed) .0 in
-          stands-once nv nw (t .goes-on z) (subst (λ (a : Stepped). Stands (a .state) w) (sym one) (u .goes-on (sym same ∙ z)))
-      by same (no z) = t .stays z ∙ sym (u .stays (λ e. z (same ∙ e)))
+pub hamrisk-packets-piece-determined : (state piece old : List ℕ) (written r s m n : ℕ) (v w x y : List ℕ) → Numbers v → Numbers w → Lent wroteOutcome (λ a. PieceOn state piece old a v x) r written m → Lent wroteOutcome (λ a. PieceOn state piece old a w y) s written n → ((r ≡ s) × (m ≡ n)) × ((v ≡ w) × (x ≡ y))
+hamrisk-packets-piece-determined state piece old written r s m n v w x y nv nw = lent-once (λ a b. piece-determined state piece old a b v w x y nv nw)
 
-  pub hamrisk-packets-piece-determined : PieceOf state piece old written r v x m → PieceOf state piece old written s w y n → (r ≡ s) × ((v ≡ w) × ((x ≡ y) × (m ≡ n)))
-  hamrisk-packets-piece-determined p q = by (strays state) refl
-    where
-      by : (b : Bool) → strays state ≡ b → (r ≡ s) × ((v ≡ w) × ((x ≡ y) × (m ≡ n)))
-      by true e =
-          let a = p .strayed e in
-          let b = q .strayed e in
-          (a .0 ∙ sym (b .0), (a .1 .0 ∙ sym (b .1 .0), (a .1 .1 .0 ∙ sym (b .1 .1 .0), a .1 .1 .1 ∙ sym (b .1 .1 .1))))
-      by false e = piece-once (p .kept e) (q .kept e)
-
-pub hamrisk-packets-close-determined : (state : List ℕ) (r s : ℕ) → CloseOf state r → CloseOf state s → r ≡ s
-hamrisk-packets-close-determined state r s p q = by (strays state) refl
-  where
-    by : (b : Bool) → strays state ≡ b → r ≡ s
-    by true e = p .strayed e ∙ sym (q .strayed e)
-    by false e =
-        let t = p .kept e in
-        let u = q .kept e in
-        t .number-is ∙ ap (λ (a : Done). status (doneOutcome a)) (close-determined (stateOf state) (t .answer) (u .answer) (t .allowed) (u .allowed)) ∙ sym (u .number-is)
+pub hamrisk-packets-close-determined : (state : List ℕ) (r s : ℕ) → Told doneOutcome (CloseOn state) r → Told doneOutcome (CloseOn state) s → r ≡ s
+hamrisk-packets-close-determined state r s t u = told-once (λ a b p q. (close-determined state a b p q, tt {0})) t u .0

@@ -1,5 +1,4 @@
 pub mod Telling
 pub mod OnLayouts
 pub mod Flags
-pub mod Standing
 pub mod Determined

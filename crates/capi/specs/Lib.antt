@@ -1,4 +1,3 @@
 pub mod Told
 pub mod OnLayouts
 pub mod OnPages
-pub mod OnStates

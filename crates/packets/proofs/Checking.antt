@@ -6,8 +6,9 @@ use Prim.Native.Nat.{ℕ, _+_, _≤_, _<_}
 use native.Mathlib.Decide.{decLt}
 use native.Mathlib.Omega.{arith}
 use borrow.Author.Tests.{lt-ltb, le-ltb, le-leb, lt-leb, not-true}
-use lib.Dec.{ltb, leb}
-use Rattle.answer.specs.Outcome.{Fault, First, here, later, Sound, none, next}
+use lib.Dec.{ltb, leb, eqb}
+use lib.ListN.{getD}
+use Rattle.answer.specs.Outcome.{Fault, pick, First, here, later, Sound, none, next}
 use Rattle.words.specs.Word.{modulus}
 use Rattle.laws.specs.Turns.{every}
 use Rattle.laws.proofs.Says.{both, up}
@@ -35,9 +36,26 @@ unfolding sumsRight
 sums-all sums width begun {n} low high e = let all : n ≡ 64 = omega arith in e ∙ ap (λ (m : ℕ). every m (sumRight sums width begun)) all
 
 -- at most the greatest word is below the modulus
-pub sum-below : (x greatest m : ℕ) → greatest + 1 ≡ m → leb x greatest ≡ ltb x m
+sum-below : (x greatest m : ℕ) → greatest + 1 ≡ m → leb x greatest ≡ ltb x m
 sum-below x greatest m e = by (decLt x m)
   where
     by : Dec (x < m) → leb x greatest ≡ ltb x m
     by (yes l) = le-leb x greatest (omega arith) ∙ sym (lt-ltb x m l)
     by (no g) = lt-leb x greatest (omega arith) ∙ sym (le-ltb x m (omega arith))
+
+-- what is asked of a sum that is there, and of one that is not
+module _ (sums : List ℕ) (width begun i : ℕ) where
+  pub sum-there : (greatest : ℕ) → i < begun → greatest + 1 ≡ modulus width → leb (getD sums i 0) greatest ≡ sumRight sums width begun i
+  sum-there greatest h e = rw (lt-ltb i begun h) (sum-below (getD sums i 0) greatest (modulus width) e)
+
+  pub sum-none : begun ≤ i → eqb (getD sums i 0) 0 ≡ sumRight sums width begun i
+  sum-none h = rw (le-ltb i begun h)
+
+-- no more channels have a sample than there are
+pub begun-few : (predict : Bool) (begun channels : ℕ) → pick predict (pick (ltb begun channels) begun channels) 0 ≤ channels
+begun-few false begun channels = omega arith
+begun-few true begun channels = by (decLt begun channels)
+  where
+    by : Dec (begun < channels) → pick (ltb begun channels) begun channels ≤ channels
+    by (yes l) = rw (lt-ltb begun channels l) (omega arith)
+    by (no g) = rw (le-ltb begun channels (omega arith)) (omega arith)

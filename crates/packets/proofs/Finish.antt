@@ -8,8 +8,8 @@ use lib.ListN.{length, take, drop}
 use Rattle.answer.proofs.Filling.{part, length-part, length-stores, length-filled, halfway}
 use Rattle.packets.specs.declared.Plan.{Plan}
 use Rattle.packets.specs.State.{behind}
-use Rattle.packets.specs.Promises.{noTail, completes}
-use Rattle.packets.specs.Steps.{state, BytesFeed, BytesFed, WordsFeed, WordsFed, FromWord, HoldFits, Held}
+use Rattle.packets.specs.Promises.{noTail, completes, state}
+use Rattle.packets.specs.Steps.{BytesFeed, BytesFed, WordsFeed, WordsFed, FromWord, HoldFits, Held}
 use Rattle.packets.proofs.Bytewise.{Sane}
 use Rattle.packets.proofs.Behind.{Shaped}
 use Rattle.packets.proofs.Reaches.{shaped-at}

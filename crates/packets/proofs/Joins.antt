@@ -8,8 +8,8 @@ use lib.ListN.{length, take, drop, take-append-drop}
 use Rattle.answer.proofs.Filling.{part, length-part, halfway}
 use Rattle.packets.specs.declared.Plan.{Plan}
 use Rattle.packets.specs.declared.Packets.{Packets}
-use Rattle.packets.specs.Promises.{noTail, completes}
-use Rattle.packets.specs.Steps.{state, BytesFeed, BytesFed, WordsFeed, WordsFed, Feeds, Fed}
+use Rattle.packets.specs.Promises.{noTail, completes, state}
+use Rattle.packets.specs.Steps.{BytesFeed, BytesFed, WordsFeed, WordsFed, Feeds, Fed}
 use Rattle.packets.proofs.Behind.{passed, sane-sound}
 use Rattle.packets.proofs.Cut.{completes-end}
 use Rattle.packets.proofs.Parts.{head-feeds, out-long, rest-feeds, both-fed}

@@ -18,8 +18,8 @@ use Rattle.laws.proofs.Lists.{past-end}
 use Rattle.packets.specs.declared.Plan.{Plan}
 use Rattle.packets.specs.declared.Packets.{Packets}
 use Rattle.packets.specs.State.{tailAt, tailOf, sumsOf, stateAt, consistent, behind, most}
-use Rattle.packets.specs.Promises.{noTail, completes, continuedAt, continued}
-use Rattle.packets.specs.Steps.{state, Fed, BytesFeed, BytesFed, WordsFeed, WordsFed, Held, Begins}
+use Rattle.packets.specs.Promises.{noTail, completes, continuedAt, continued, state}
+use Rattle.packets.specs.Steps.{Fed, BytesFeed, BytesFed, WordsFeed, WordsFed, Held, Begins}
 use Rattle.packets.proofs.Bytewise.{Sane, tail-none, same-words}
 use Rattle.packets.proofs.Agree.{sums-agree}
 use Rattle.packets.proofs.Behind.{Passed, passed, Shaped, sane-sound, behind-length, tail-behind, sums-behind}

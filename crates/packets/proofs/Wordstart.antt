@@ -13,8 +13,8 @@ use Rattle.words.specs.Promises.{served}
 use Rattle.packets.specs.declared.Plan.{Plan}
 use Rattle.packets.specs.declared.Packets.{Packets}
 use Rattle.packets.specs.State.{consistent}
-use Rattle.packets.specs.Promises.{noTail, completes}
-use Rattle.packets.specs.Steps.{state, BytesFeed, BytesFed, WordsFeed, WordsFed, FromWord, Begins}
+use Rattle.packets.specs.Promises.{noTail, completes, state}
+use Rattle.packets.specs.Steps.{BytesFeed, BytesFed, WordsFeed, WordsFed, FromWord, Begins}
 use Rattle.packets.proofs.Bytewise.{Sane}
 use Rattle.packets.proofs.Behind.{passed}
 use Rattle.packets.proofs.Joins.{complete-words, front-feeds, back-feeds, quiet-feds}

@@ -23,8 +23,8 @@ use Rattle.samples.proofs.Rows.{same-samples}
 use Rattle.packets.specs.declared.Plan.{Plan}
 use Rattle.packets.specs.declared.Packets.{Packets}
 use Rattle.packets.specs.State.{geometry, perRow, sampleOf, sumAt, sumsOf, stateAt, behind}
-use Rattle.packets.specs.Promises.{noTail, noSums, completes, continuedAt}
-use Rattle.packets.specs.Steps.{state, WordsFeed, WordsFed}
+use Rattle.packets.specs.Promises.{noTail, noSums, completes, continuedAt, state}
+use Rattle.packets.specs.Steps.{WordsFeed, WordsFed}
 use Rattle.packets.proofs.Bytewise.{Sane, row-some, tail-none, sums-none}
 use Rattle.packets.proofs.Agree.{sums-agree}
 use Rattle.packets.proofs.Behind.{Passed, passed, Shaped, sane-sound, row-place, behind-length, sums-behind}

@@ -66,6 +66,22 @@ pub record Took (st : Packets) (piece old : List ℕ) (r : Stepped) (new : List 
   pub writes : Promise (unless (pieceFaults st piece old) (completes st (length piece))) (table (completes st (length piece)) (continuedAt st piece)) old (wroteOutcome (r .answer)) new
   pub state : r .state ≡ instead (unless (pieceFaults st piece old) (completes st (length piece))) (continued st piece) st
 
+-- a state as its parts
+abbrev pub state : Plan → ℕ → List ℕ → List ℕ → Packets
+state p k tail sums = record { plan = p; received = k; tail = tail; sums = sums }
+
+-- a piece of a strip whose state's parts are lent: lists of other lengths are no state's
+abbrev pub lentFaults : Packets → List ℕ → List ℕ → List Fault
+lentFaults st piece old = invalid (not (eqb (length (st .tail)) 8)) ∷ invalid (not (eqb (length (st .sums)) 64)) ∷ pieceFaults st piece old
+
+abbrev pub lentTaking : Packets → List ℕ → List ℕ → Outcome ℕ
+lentTaking st piece old = unless (lentFaults st piece old) (completes st (length piece))
+
+pub record TookLent (st : Packets) (piece old : List ℕ) (answer : Wrote) (tail sums new : List ℕ) : Type 0 where
+  pub writes : Promise (lentTaking st piece old) (table (completes st (length piece)) (continuedAt st piece)) old (wroteOutcome answer) new
+  pub tails : tail ≡ instead (lentTaking st piece old) (continued st piece .tail) (st .tail)
+  pub sums-are : sums ≡ instead (lentTaking st piece old) (continued st piece .sums) (st .sums)
+
 -- closing: whole rows have come
 abbrev pub closeFaults : Packets → List Fault
 closeFaults st = invalid (not (consistent st)) ∷ invalid (not (eqb (st .received % st .plan .«row_bytes») 0)) ∷ []

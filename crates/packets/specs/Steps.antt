@@ -8,11 +8,7 @@ use Rattle.answer.specs.Table.{table, filled, stores}
 use Rattle.packets.specs.declared.Plan.{Plan}
 use Rattle.packets.specs.declared.Packets.{Packets}
 use Rattle.packets.specs.State.{most, consistent}
-use Rattle.packets.specs.Promises.{noTail, completes, continuedAt, continued}
-
--- a state as its parts
-abbrev pub state : Plan → ℕ → List ℕ → List ℕ → Packets
-state p k tail sums = record { plan = p; received = k; tail = tail; sums = sums }
+use Rattle.packets.specs.Promises.{noTail, state, completes, continuedAt, continued}
 
 -- what a state and a piece need, and what is done with them
 pub record Feeds (st : Packets) (piece out : List ℕ) : Type 0 where

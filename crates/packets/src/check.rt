@@ -1,15 +1,18 @@
 // Whether a start and pieces lead to a state.
-use crate::Packets;
+use crate::Plan;
 use crate::feed;
 use answer::Done;
 ghost use mathlib.Core.Path.{_≡_};
 ghost use mathlib.Core.Bool.{true, _||_};
-ghost use Prim.Native.Nat.{_+_};
-ghost use lib.Dec.{eqb, ltb, leb};
+ghost use Prim.Native.Nat.{_+_, _≤_};
+ghost use lib.Dec.{eqb, ltb};
+ghost use lib.ListN.{length};
 ghost use Rattle.answer.specs.Outcome.{pick};
 ghost use Rattle.words.specs.Word.{modulus};
 ghost use Rattle.words.specs.Promises.{served};
-ghost use Rattle.packets.specs.State.{tailsRight, sumsRight, consistent};
+ghost use Rattle.laws.specs.Turns.{every};
+ghost use Rattle.packets.specs.State.{sumRight, tailsRight, sumsRight, consistent};
+ghost use Rattle.packets.specs.Promises.{state};
 
 fn byte_right(x: u8, is_live: bool) -> bool
     ensures { λ r. ⌜ r ≡ («is_live» || eqb x 0) ⌝ }
@@ -17,8 +20,9 @@ fn byte_right(x: u8, is_live: bool) -> bool
     is_live | (x == 0)
 }
 
-fn tail_right(tail: [u8; 8], begun: usize) -> bool
-    ensures { λ r. ⌜ r ≡ tailsRight tail begun ⌝ }
+fn tail_right(tail: &[u8], begun: usize) -> bool
+    requires { ⌜ length (now tail) ≡ 8 ⌝ }
+    ensures { λ r. ⌜ r ≡ tailsRight (now (tail .entry)) begun ⌝ }
 {
     let mut right = true;
     let mut i: usize = 0;
@@ -45,21 +49,30 @@ fn greatest(width: usize) -> u64
     }
 }
 
-fn sum_right(x: u64, most: u64, is_live: bool) -> bool
-    ensures { λ r. ⌜ r ≡ pick «is_live» (leb x most) (eqb x 0) ⌝ }
-{
-    if is_live { x <= most } else { x == 0 }
-}
-
-fn sums_right(sums: [u64; 64], width: usize, begun: usize) -> bool
-    requires { ⌜ served width ≡ true ⌝ }
-    ensures { λ r. ⌜ r ≡ sumsRight sums width begun ⌝ }
+// The sums of the channels that have a sample.
+fn sums_small(sums: &[u64], width: usize, begun: usize) -> bool
+    requires { ⌜ (served width ≡ true) × ((length (now sums) ≡ 64) × (begun ≤ 64)) ⌝ }
+    ensures { λ r. ⌜ r ≡ every begun (sumRight (now (sums .entry)) width begun) ⌝ }
 {
     let most = greatest(width);
     let mut right = true;
     let mut i: usize = 0;
+    while i < begun {
+        right = right & (sums[i] <= most);
+        i += 1;
+    }
+    right
+}
+
+// And no sum past them: apart, so that the compiler looks at many at once.
+fn sums_right(sums: &[u64], width: usize, begun: usize) -> bool
+    requires { ⌜ (served width ≡ true) × ((length (now sums) ≡ 64) × (begun ≤ 64)) ⌝ }
+    ensures { λ r. ⌜ r ≡ sumsRight (now (sums .entry)) width begun ⌝ }
+{
+    let mut right = sums_small(sums, width, begun);
+    let mut i = begun;
     while i < 64 {
-        right = right & sum_right(sums[i], most, i < begun);
+        right = right & (sums[i] == 0);
         i += 1;
     }
     right
@@ -74,18 +87,16 @@ fn begun_channels(predict: bool, begun: usize, channels: usize) -> usize
     if begun < channels { begun } else { channels }
 }
 
-pub(crate) fn passes(state: Packets) -> bool
-    ensures { λ r. ⌜ r ≡ consistent state ⌝ }
+pub(crate) fn passes(plan: Plan, received: usize, tail: &[u8], sums: &[u64]) -> bool
+    requires { ⌜ (length (now tail) ≡ 8) × (length (now sums) ≡ 64) ⌝ }
+    ensures { λ r. ⌜ r ≡ consistent (state plan received (now (tail .entry)) (now (sums .entry))) ⌝ }
 {
-    let plan = state.plan;
-    let received = state.received;
     match samples::check_strip(0, plan.row_bytes, plan.channels, plan.width) {
         Done::Refused(_) => false,
         Done::Done => {
             if 1073741824 < received {
                 return false;
             }
-            let tail = state.tail;
             if !tail_right(tail, feed::past(received, plan.width)) {
                 return false;
             }
@@ -94,7 +105,6 @@ pub(crate) fn passes(state: Packets) -> bool
                 feed::whole(received % plan.row_bytes, plan.width),
                 plan.channels,
             );
-            let sums = state.sums;
             sums_right(sums, plan.width, begun)
         }
     }

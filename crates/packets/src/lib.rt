@@ -6,7 +6,7 @@ mod feed;
 use answer::Done;
 use answer::Refusal;
 ghost use mathlib.Core.Path.{_≡_};
-ghost use Rattle.packets.specs.Promises.{nowhere, plan as planOf, Begun, Took, Closed};
+ghost use Rattle.packets.specs.Promises.{nowhere, plan as planOf, state, Begun, Took, TookLent, Closed};
 
 // What a start fixes.
 pub struct Plan {
@@ -62,6 +62,39 @@ fn nothing() -> Packets
     }
 }
 
+// The next bytes of a strip, as `Packets::piece` takes them, on a state whose parts are lent: the bytes of the unfinished word and the sums are
+// altered where they stand.
+pub fn lent_piece(
+    plan: Plan,
+    received: usize,
+    bytes: &[u8],
+    tail: &mut [u8],
+    sums: &mut [u64],
+    out: &mut [u8],
+) -> Wrote
+    ensures { λ r. ⌜ TookLent (state plan received (now (tail .entry)) (now (sums .entry))) (now (bytes .entry)) (now (out .entry)) r (now (tail .exit)) (now (sums .exit)) (now (out .exit)) ⌝ }
+{
+    if tail.len() != 8 {
+        return Wrote::Refused(Refusal::Invalid);
+    }
+    if sums.len() != 64 {
+        return Wrote::Refused(Refusal::Invalid);
+    }
+    if !check::passes(plan, received, tail, sums) {
+        return Wrote::Refused(Refusal::Invalid);
+    }
+    if 1073741824 - received < bytes.len() {
+        return Wrote::Refused(Refusal::Limit);
+    }
+    let begun = feed::past(received, plan.width) + bytes.len();
+    let completes = begun - feed::past(begun, plan.width);
+    if out.len() < completes {
+        return Wrote::Refused(Refusal::OutputTooSmall);
+    }
+    feed::feed(plan, received, bytes, tail, sums, out);
+    Wrote::Bytes(completes)
+}
+
 impl Packets {
     // A conversion of which no byte has come.
     pub fn start(
@@ -109,39 +142,27 @@ impl Packets {
     pub fn piece(self, bytes: &[u8], out: &mut [u8]) -> Stepped
         ensures { λ r. ⌜ Took self (now (bytes .entry)) (now (out .entry)) r (now (out .exit)) ⌝ }
     {
-        if !check::passes(self) {
-            return Stepped {
-                state: self,
-                answer: Wrote::Refused(Refusal::Invalid),
-            };
-        }
-        if 1073741824 - self.received < bytes.len() {
-            return Stepped {
-                state: self,
-                answer: Wrote::Refused(Refusal::Limit),
-            };
-        }
         let plan = self.plan;
-        let begun = feed::past(self.received, plan.width) + bytes.len();
-        let completes = begun - feed::past(begun, plan.width);
-        if out.len() < completes {
-            return Stepped {
-                state: self,
-                answer: Wrote::Refused(Refusal::OutputTooSmall),
-            };
-        }
         let mut tail = self.tail;
         let mut sums = self.sums;
-        feed::feed(plan, self.received, bytes, &mut tail, &mut sums, out);
-        let state = Packets {
-            plan: plan,
-            received: self.received + bytes.len(),
-            tail: tail,
-            sums: sums,
-        };
-        Stepped {
-            state: state,
-            answer: Wrote::Bytes(completes),
+        let answer = lent_piece(plan, self.received, bytes, &mut tail, &mut sums, out);
+        match answer {
+            Wrote::Refused(kind) => Stepped {
+                state: self,
+                answer: Wrote::Refused(kind),
+            },
+            Wrote::Bytes(n) => {
+                let state = Packets {
+                    plan: plan,
+                    received: self.received + bytes.len(),
+                    tail: tail,
+                    sums: sums,
+                };
+                Stepped {
+                    state: state,
+                    answer: Wrote::Bytes(n),
+                }
+            }
         }
     }
 
@@ -149,10 +170,13 @@ impl Packets {
     pub fn close(self) -> Done
         ensures { λ r. ⌜ Closed self r ⌝ }
     {
-        if !check::passes(self) {
+        let plan = self.plan;
+        let tail = self.tail;
+        let sums = self.sums;
+        if !check::passes(plan, self.received, &tail, &sums) {
             return Done::Refused(Refusal::Invalid);
         }
-        if self.received % self.plan.row_bytes != 0 {
+        if self.received % plan.row_bytes != 0 {
             return Done::Refused(Refusal::Invalid);
         }
         Done::Done

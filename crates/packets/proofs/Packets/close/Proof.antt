@@ -11,15 +11,18 @@ use Rattle.packets.proofs.Behind.{passed, sane-sound}
 use Rattle.packets.proofs.Packets.close.Statement.{statement}
 use Rattle.packets.proofs.Packets.close.Tie as tie
 
-passes : (c : tie.Else1) → consistent (c .before .before .args .self) ≡ true
+abbrev start : tie.Else1 → tie.Start
+start c = c .before .before .before .before .before .before .before
+
+passes : (c : tie.Else1) → consistent (start c .args .self) ≡ true
 passes c = sym (c .before .passes .ensures) ∙ not-false (c .before .passes .result) (c .if1 .left)
 
 pub close-spec : {M : Type 1} → statement M
 close-spec =
     tie.close
     (tie.spec
-    (λ c κs. search needs)
-    (λ c. refusing (closeFaults (c .before .before .args .self)) tt (here (ap not (sym (c .before .passes .ensures) ∙ not-true (c .before .passes .result) (c .if1 .taken)))))
-    (λ c. sane-sound (c .before .before .before .args .self .plan) (passed _ (passes (c .before)) .sound) .good .long)
-    (λ c. let past = c .before .before in refusing (closeFaults (past .before .before .args .self)) tt (later (ap not (passes past)) (here (ap not (ne-eqb _ _ (c .if2 .taken))))))
-    (λ c. let past = c .before .before in finishing (closeFaults (past .before .before .args .self)) tt (next (ap not (passes past)) (next (ap not (eq-eqb _ _ (c .if2 .left))) none))))
+    (λ c. search needs) (λ c. search needs) (λ c κs. search needs)
+    (λ c. refusing (closeFaults (c .before .before .before .before .before .before .before .args .self)) tt (here (ap not (sym (c .before .passes .ensures) ∙ not-true (c .before .passes .result) (c .if1 .taken)))))
+    (λ c. let past = c .before .before in sane-sound (start past .args .self .plan) (passed _ (passes past) .sound) .good .long)
+    (λ c. let past = c .before .before .before in refusing (closeFaults (start past .args .self)) tt (later (ap not (passes past)) (here (ap not (ne-eqb _ _ (c .if2 .taken))))))
+    (λ c. let past = c .before .before .before in finishing (closeFaults (start past .args .self)) tt (next (ap not (passes past)) (next (ap not (eq-eqb _ _ (c .if2 .left))) none))))

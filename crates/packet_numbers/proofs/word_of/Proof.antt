@@ -1,8 +1,8 @@
--- `capi::states::word_of` meets its contract: the eight bytes, and that they are bytes. Assumes nothing.
+-- `packet_numbers::word_of` meets its contract: the eight bytes, and that they are bytes. Assumes nothing.
 use borrow.Author.Needs.{needs}
 use native.Mathlib.Omega.{arith}
-use Rattle.capi.proofs.states.word_of.Statement.{statement}
-use Rattle.capi.proofs.states.word_of.Tie as tie
+use Rattle.packet_numbers.proofs.word_of.Statement.{statement}
+use Rattle.packet_numbers.proofs.word_of.Tie as tie
 
 pub word-of-spec : {M : Type 1} → statement M
 word-of-spec =

@@ -1,4 +1,4 @@
--- `capi::states::with_sums` meets its contract: the sums so far are stored from number 8 on. Assumes nothing.
+-- `packet_numbers::with_sums` meets its contract: the sums so far are stored from number 8 on. Assumes nothing.
 use borrow.Author.Needs.{needs}
 use native.Mathlib.Omega.{arith}
 use native.Mathlib.Numerals.{add-one}
@@ -6,9 +6,9 @@ use mathlib.Core.Path.{_≡_, refl}
 use Prim.Native.Nat.{_-_, _≤_}
 use lib.ListN.{getD}
 use Rattle.answer.specs.Table.{table, stores}
-use Rattle.capi.proofs.Standing.{with-all}
-use Rattle.capi.proofs.states.with_sums.Statement.{statement}
-use Rattle.capi.proofs.states.with_sums.Tie as tie
+use Rattle.packet_numbers.proofs.Standing.{with-all}
+use Rattle.packet_numbers.proofs.with_sums.Statement.{statement}
+use Rattle.packet_numbers.proofs.with_sums.Tie as tie
 
 abbrev Inv-loop : tie.InvT-loop
 Inv-loop sums s₀ i₀ s i = (i ≤ 64) × (s ≡ stores (table 80 (λ j. 0)) 8 i (λ j. getD sums j 0))

@@ -8,28 +8,21 @@ use native.Mathlib.Decide.{decLt, ℕ-discrete}
 use native.Mathlib.Omega.{arith}
 use borrow.Author.Tests.{eq-eqb, ne-eqb, eqb-true, ltb-false, not-false}
 use lib.Dec.{ltb, eqb}
-use lib.ListN.{length, getD}
-use lib.Seq.{ext-getD}
-use Rattle.answer.specs.Outcome.{number}
-use Rattle.answer.specs.declared.Refusal.{Refusal}
-use Rattle.answer.specs.declared.Refusal.the-variants.{Unsupported, Invalid, Truncated, OutputTooSmall, Limit}
+use lib.ListN.{length, getD, set, length-set}
+use lib.Seq.{ext-getD, getD-set-same, getD-set-other}
 use Rattle.answer.specs.Table.{table, stores}
-use Rattle.answer.proofs.Filling.{length-table, table-at, table-same, table-self, length-stores, stores-at, stores-rest}
+use Rattle.answer.proofs.Filling.{part, length-part, part-at, length-table, table-at, table-same, table-self, length-stores, stores-at, stores-rest}
 use Rattle.words.specs.Digits.{digit, value}
 use Rattle.words.specs.Word.{Bytes}
 use Rattle.words.proofs.Digits.{digit-value, value-digit, value-same}
 use Rattle.laws.specs.Turns.{every}
 use Rattle.laws.proofs.Lists.{FilledTo, filled-end}
 use Rattle.laws.proofs.Says.{clash, neither}
-use Rattle.laws.proofs.Turns.{every-one, every-all}
+use Rattle.laws.proofs.Turns.{every-one, every-all, every-same}
 use Rattle.packets.specs.declared.Packets.{Packets}
-use Rattle.packets.specs.declared.Stepped.{Stepped}
-use Rattle.packets.specs.declared.Wrote.{Wrote}
-use Rattle.packets.specs.declared.Wrote.the-variants as Wrote-is
-use Rattle.packets.specs.Promises.{wroteOutcome, Took}
-use Rattle.capi.specs.Told.{status, lent}
-use Rattle.capi.specs.OnPages.{flagOf}
-use Rattle.capi.specs.OnStates.{tailOf, sumsIn, stateOf, unused, allUnused, strays, withSums, Stands, PieceTold}
+use Rattle.packets.specs.Promises.{state}
+use Rattle.packet_numbers.specs.Numbers.{flagOf, tailOf, sumsIn, planIn, stateOf, unused, allUnused, strays, withSums, Stands}
+use Rattle.packet_numbers.proofs.Splices.{spliced, length-spliced, spliced-front, spliced-part, spliced-rest}
 
 -- a loop that came to its end has read all sums, and looked at all numbers that are not used
 pub sums-all : (s : List ℕ) {old sums : List ℕ} {n : ℕ} → length old ≡ 64 → 64 ≤ n → FilledTo (λ j. getD s (8 + j) 0) old n sums → sums ≡ sumsIn s
@@ -52,6 +45,16 @@ flag-back false = refl
 flag-small : (b : Bool) → ltb 1 (flagOf b) ≡ false
 flag-small true = refl
 flag-small false = refl
+
+-- eight bytes joined and taken apart
+tail-joined : (v : ℕ) (tail : List ℕ) → length tail ≡ 8 → Bytes tail → v ≡ value 256 8 (λ p. getD tail p 0) → tailOf v ≡ tail
+tail-joined v tail tails bytes joined =
+    table-same 8 (λ j. digit 256 j v) (λ j. getD tail j 0) (λ j h. rw joined (digit-value 256 8 (λ p. getD tail p 0) (λ p l. bytes p) j h))
+    ∙ (rw tails at (table-self tail))
+
+-- numbers that do not stray are 80
+pub kept-long : (s : List ℕ) → strays s ≡ false → length s ≡ 80
+kept-long s e = eqb-true (length s) 80 (not-false (eqb (length s) 80) (neither (not (eqb (length s) 80)) _ e .0))
 
 abbrev pub front : Packets → ℕ → List ℕ
 front st tail =
@@ -99,48 +102,70 @@ module _ (st : Packets) (tail : ℕ) (tails : length (st .tail) ≡ 8) (sums : l
   unfolding sumsIn
   sums-back = table-same 64 (λ j. getD s (8 + j) 0) (λ j. getD (st .sums) j 0) sum-at ∙ (rw sums at (table-self (st .sums)))
 
-  tail-back : tailOf tail ≡ st .tail
-  tail-back =
-      table-same 8 (λ j. digit 256 j tail) (λ j. getD (st .tail) j 0) (λ j h. rw joined (digit-value 256 8 (λ p. getD (st .tail) p 0) (λ p l. bytes p) j h))
-      ∙ (rw tails at (table-self (st .tail)))
+  s-long : length s ≡ 80
+  s-long = length-stores (withSums (st .sums)) 0 8 (λ p. getD (front st tail) p 0) ∙ sums-long
 
   pub stands : Stands st s
   stands = record {
-    kept = rw (first 3 (omega arith), first 4 (omega arith), first 5 (omega arith), none-used, flag-small (st .plan .le), flag-small (st .plan .predict), flag-small (st .plan .«out_le»));
-    state = rw (first 0 (omega arith), first 1 (omega arith), first 2 (omega arith), first 3 (omega arith), first 4 (omega arith), first 5 (omega arith), first 6 (omega arith), first 7 (omega arith), flag-back (st .plan .le), flag-back (st .plan .predict), flag-back (st .plan .«out_le»), tail-back, sums-back);
+    kept = rw (eq-eqb (length s) 80 s-long, first 3 (omega arith), first 4 (omega arith), first 5 (omega arith), none-used, flag-small (st .plan .le), flag-small (st .plan .predict), flag-small (st .plan .«out_le»));
+    state = rw (first 0 (omega arith), first 1 (omega arith), first 2 (omega arith), first 3 (omega arith), first 4 (omega arith), first 5 (omega arith), first 6 (omega arith), first 7 (omega arith), flag-back (st .plan .le), flag-back (st .plan .predict), flag-back (st .plan .«out_le»), tail-joined tail (st .tail) tails bytes joined, sums-back);
   }
 
--- how a piece's promise is met, by its answer
-number-some : (kind : Refusal) → number kind ≡ 0 → ⊥
-number-some Unsupported e = omega arith
-number-some Invalid e = omega arith
-number-some Truncated e = omega arith
-number-some OutputTooSmall e = omega arith
-number-some Limit e = omega arith
+-- numbers of which the sums, the bytes received and the unfinished word are altered where they stand
+module _ (s : List ℕ) (kept : strays s ≡ false) (sums tail : List ℕ) (received v : ℕ) (held : length sums ≡ 64) (tails : length tail ≡ 8) (bytes : Bytes tail) (joined : v ≡ value 256 8 (λ p. getD tail p 0)) where
+  abbrev spread : List ℕ
+  spread = spliced 8 72 s sums
 
-module _ (s : List ℕ) {piece old new : List ℕ} (given : Packets) (same : given ≡ stateOf s) (d : Stepped) (took : Took given piece old d new) where
-  here : Took (stateOf s) piece old d new
-  here = subst (λ (x : Packets). Took x piece old d new) same took
+  abbrev moved : List ℕ
+  moved = set (set spread 6 received) 7 v
 
-  pub piece-refused : (written : ℕ) {r : ℕ} (kind : Refusal) → d .answer ≡ Wrote-is.Refused kind → r ≡ number kind → PieceTold s piece old written r s new written
-  piece-refused written {r} kind e is = record {
-    answer = d;
-    allowed = here;
-    number-is = is ∙ sym (ap (λ (a : Wrote). status (wroteOutcome a)) e);
-    written-is = sym (ap (λ (a : Wrote). lent (wroteOutcome a) written) e);
-    goes-on = λ z. absurd (number-some kind (sym is ∙ z));
-    stays = λ z. refl;
+  long : length s ≡ 80
+  long = kept-long s kept
+
+  spread-long : length spread ≡ 80
+  spread-long = length-spliced 8 72 s sums (omega arith) (omega (arith, long)) held ∙ long
+
+  moved-long : length moved ≡ 80
+  moved-long = rw (length-set, length-set) spread-long
+
+  moved-at : (i : ℕ) → (i ≡ 6 → ⊥) → (i ≡ 7 → ⊥) → getD moved i 0 ≡ getD spread i 0
+  moved-at i n6 n7 = getD-set-other (set spread 6 received) 7 i v 0 n7 ∙ getD-set-other spread 6 i received 0 n6
+
+  moved-front : (i : ℕ) → i < 6 → getD moved i 0 ≡ getD s i 0
+  moved-front i h = moved-at i (λ e. omega arith) (λ e. omega arith) ∙ spliced-front 8 72 s sums (omega arith) (omega (arith, long)) held i (omega arith)
+
+  moved-received : getD moved 6 0 ≡ received
+  moved-received = getD-set-other (set spread 6 received) 7 6 v 0 (λ e. omega arith) ∙ getD-set-same spread 6 received 0 (omega (arith, spread-long))
+
+  moved-tail : getD moved 7 0 ≡ v
+  moved-tail = getD-set-same (set spread 6 received) 7 v 0 (rw length-set (omega (arith, spread-long)))
+
+  moved-unused : (j : ℕ) → getD moved (72 + j) 0 ≡ getD s (72 + j) 0
+  moved-unused j = moved-at (72 + j) (λ e. omega arith) (λ e. omega arith) ∙ spliced-rest 8 72 s sums (omega arith) (omega (arith, long)) held j
+
+  moved-none : allUnused moved ≡ allUnused s
+  unfolding allUnused
+  moved-none = every-same 8 (unused moved) (unused s) (λ j h. ap (λ (n : ℕ). eqb n 0) (moved-unused j))
+
+  moved-sums : sumsIn moved ≡ sums
+  unfolding sumsIn
+  moved-sums =
+      table-same 64 (λ j. getD moved (8 + j) 0) (λ j. getD sums j 0) (λ j h. moved-at (8 + j) (λ e. omega arith) (λ e. omega arith) ∙ spliced-part 8 72 s sums (omega arith) (omega (arith, long)) held j h)
+      ∙ (rw held at (table-self sums))
+
+  pub moved-stands : Stands (state (planIn s) received tail sums) moved
+  moved-stands = record {
+    kept = rw (eq-eqb (length moved) 80 moved-long, moved-front 3 (omega arith), moved-front 4 (omega arith), moved-front 5 (omega arith), moved-none) (neither (not (eqb (length s) 80)) _ kept .1);
+    state = rw (moved-front 0 (omega arith), moved-front 1 (omega arith), moved-front 2 (omega arith), moved-front 3 (omega arith), moved-front 4 (omega arith), moved-front 5 (omega arith), moved-received, moved-tail, tail-joined v tail tails bytes joined, moved-sums);
   }
 
-  pub piece-done : (written : ℕ) {s′ : List ℕ} (n : ℕ) → d .answer ≡ Wrote-is.Bytes n → Stands (d .state) s′ → PieceTold s piece old written 0 s′ new n
-  piece-done written n e stands′ = record {
-    answer = d;
-    allowed = here;
-    number-is = sym (ap (λ (a : Wrote). status (wroteOutcome a)) e);
-    written-is = sym (ap (λ (a : Wrote). lent (wroteOutcome a) written) e);
-    goes-on = λ z. stands′;
-    stays = λ z. absurd (z refl);
-  }
+-- the sums where they stand
+pub sums-part : (s : List ℕ) → length s ≡ 80 → part 8 72 s ≡ sumsIn s
+unfolding sumsIn
+sums-part s long =
+    sym (table-self (part 8 72 s))
+    ∙ ap (λ (n : ℕ). table n (λ k. getD (part 8 72 s) k 0)) (length-part 8 72 s (omega arith) (omega (arith, long)))
+    ∙ table-same 64 (λ k. getD (part 8 72 s) k 0) (λ j. getD s (8 + j) 0) (part-at 8 72 s)
 
 -- numbers that stand for one state are the same, being 80 numbers of 64 bits
 pub record Numbers (s : List ℕ) : Type 0 where
@@ -171,7 +196,8 @@ module _ {st : Packets} {s t : List ℕ} (ns : Numbers s) (nt : Numbers t) (p : 
 
   small-flags : (l : List ℕ) → strays l ≡ false → (getD l 3 0 ≤ 1) × ((getD l 4 0 ≤ 1) × ((getD l 5 0 ≤ 1) × (allUnused l ≡ true)))
   small-flags l e =
-      let outer = neither ((ltb 1 (getD l 3 0) || ltb 1 (getD l 4 0)) || ltb 1 (getD l 5 0)) (not (allUnused l)) e in
+      let flags = neither (not (eqb (length l) 80)) (((ltb 1 (getD l 3 0) || ltb 1 (getD l 4 0)) || ltb 1 (getD l 5 0)) || not (allUnused l)) e .1 in
+      let outer = neither ((ltb 1 (getD l 3 0) || ltb 1 (getD l 4 0)) || ltb 1 (getD l 5 0)) (not (allUnused l)) flags in
       let inner = neither (ltb 1 (getD l 3 0) || ltb 1 (getD l 4 0)) (ltb 1 (getD l 5 0)) (outer .0) in
       let first-two = neither (ltb 1 (getD l 3 0)) (ltb 1 (getD l 4 0)) (inner .0) in
       (ltb-false 1 (getD l 3 0) (first-two .0), (ltb-false 1 (getD l 4 0) (first-two .1), (ltb-false 1 (getD l 5 0) (inner .1), not-false (allUnused l) (outer .1))))

@@ -1,10 +1,10 @@
--- `capi::states::numbers_of` meets its contract: they stand for the state (proofs/Standing.antt). Assumes nothing.
+-- `packet_numbers::numbers_of` meets its contract: they stand for the state (proofs/Standing.antt). Assumes nothing.
 use borrow.Author.Needs.{needs}
 use mathlib.Core.Path.{_≡_}
 use lib.ListN.{length}
-use Rattle.capi.proofs.Standing.{stands}
-use Rattle.capi.proofs.states.numbers_of.Statement.{statement}
-use Rattle.capi.proofs.states.numbers_of.Tie as tie
+use Rattle.packet_numbers.proofs.Standing.{stands}
+use Rattle.packet_numbers.proofs.numbers_of.Statement.{statement}
+use Rattle.packet_numbers.proofs.numbers_of.Tie as tie
 
 abbrev start : tie.After-word-of → tie.Start
 start c = c .before .before .before .before .before .before .before .before .before

@@ -1,13 +1,13 @@
--- `capi::states::sums_of` meets its contract: as far as the loop came, the sums stand there. Assumes nothing.
+-- `packet_numbers::sums_of` meets its contract: as far as the loop came, the sums stand there. Assumes nothing.
 use borrow.Author.Needs.{needs}
 use native.Mathlib.Omega.{arith}
 use mathlib.Core.Path.{refl}
 use Prim.Native.Nat.{_+_, _-_}
 use lib.ListN.{getD}
 use Rattle.laws.proofs.Lists.{FilledTo, filled-none, filled-next}
-use Rattle.capi.proofs.Standing.{sums-all}
-use Rattle.capi.proofs.states.sums_of.Statement.{statement}
-use Rattle.capi.proofs.states.sums_of.Tie as tie
+use Rattle.packet_numbers.proofs.Standing.{sums-all}
+use Rattle.packet_numbers.proofs.sums_of.Statement.{statement}
+use Rattle.packet_numbers.proofs.sums_of.Tie as tie
 
 abbrev Inv-loop : tie.InvT-loop
 Inv-loop s sums₀ i₀ sums i = FilledTo (λ j. getD s (8 + j) 0) sums₀ i sums

@@ -1,4 +1,4 @@
--- `capi::states::all_unused` meets its contract: the answer so far is the test of the numbers so far. Assumes nothing.
+-- `packet_numbers::all_unused` meets its contract: the answer so far is the test of the numbers so far. Assumes nothing.
 use borrow.Author.Needs.{needs}
 use native.Mathlib.Omega.{arith}
 use mathlib.Core.Path.{_≡_, refl}
@@ -6,10 +6,10 @@ use Prim.Native.Nat.{_-_, _≤_}
 use denote.Ref.{now}
 use Rattle.laws.specs.Turns.{every}
 use Rattle.laws.proofs.Turns.{every-more}
-use Rattle.capi.specs.OnStates.{unused}
-use Rattle.capi.proofs.Standing.{unused-all}
-use Rattle.capi.proofs.states.all_unused.Statement.{statement}
-use Rattle.capi.proofs.states.all_unused.Tie as tie
+use Rattle.packet_numbers.specs.Numbers.{unused}
+use Rattle.packet_numbers.proofs.Standing.{unused-all}
+use Rattle.packet_numbers.proofs.all_unused.Statement.{statement}
+use Rattle.packet_numbers.proofs.all_unused.Tie as tie
 
 abbrev Inv-loop : tie.InvT-loop
 Inv-loop s none₀ i₀ none i = (i ≤ 8) × (none ≡ every i (unused s))

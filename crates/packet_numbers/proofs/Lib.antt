@@ -1,0 +1,4 @@
+pub mod Splices
+pub mod Standing
+pub mod Taking
+pub mod Determined
