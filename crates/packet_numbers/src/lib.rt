@@ -152,14 +152,7 @@ pub fn piece(s: &mut [u64], bytes: &[u8], out: &mut [u8]) -> Wrote
     let mut tail = tail_of(s[7]);
     let first: usize = 8;
     let end: usize = 72;
-    let answer = packets::lent_piece(
-        plan,
-        received,
-        bytes,
-        &mut tail,
-        &mut s[first..end],
-        out,
-    );
+    let answer = packets::lent_piece(plan, received, bytes, &mut tail, &mut s[first..end], out);
     match answer {
         Wrote::Refused(kind) => Wrote::Refused(kind),
         Wrote::Bytes(n) => {

@@ -11,7 +11,7 @@ use Rattle.packets.specs.declared.Stepped.{Stepped}
 use Rattle.packets.specs.declared.Wrote.{Wrote}
 use Rattle.packets.specs.declared.Wrote.the-variants as Wrote-is
 use Rattle.packets.specs.declared.Plan.{Plan}
-use Rattle.packets.specs.Promises.{wroteOutcome, Begun, Took, Closed}
+use Rattle.packets.specs.Promises.{wroteOutcome, Begun, Took, TookLent, Closed}
 
 abbrev back : Outcome ℕ → Wrote
 back (done n) = Wrote-is.Bytes n
@@ -40,6 +40,11 @@ pub piece-determined : (st : Packets) (piece old : List ℕ) (a b : Stepped) (x 
 piece-determined st piece old a b x y s t =
     let one = determined (wroteOutcome (a .answer)) (wroteOutcome (b .answer)) x y (s .writes) (t .writes) in
     (stepped-same a b (s .state ∙ sym (t .state)) (once wroteOutcome back back-wrote (a .answer) (b .answer) (one .0)), one .1)
+
+pub lent-piece-determined : (st : Packets) (piece old : List ℕ) (a b : Wrote) (t u v w x y : List ℕ) → TookLent st piece old a t v x → TookLent st piece old b u w y → (a ≡ b) × ((t ≡ u) × ((v ≡ w) × (x ≡ y)))
+lent-piece-determined st piece old a b t u v w x y p q =
+    let one = determined (wroteOutcome a) (wroteOutcome b) x y (p .writes) (q .writes) in
+    (once wroteOutcome back back-wrote a b (one .0), (p .tails ∙ sym (q .tails), (p .sums-are ∙ sym (q .sums-are), one .1)))
 
 pub close-determined : (st : Packets) (a b : Done) → Closed st a → Closed st b → a ≡ b
 close-determined st a b x y = done-once a b (x ∙ sym y)

@@ -25,7 +25,7 @@ use Rattle.packets.proofs.Bytewise.{Sane, sums-none, word-sample, word-
 use Rattle.packets.proofs.Behind.{row-place}
 use Rattle.packets.proofs.Wordwise.{ok, is, s, width-served, a-words, words-room, word-here, sums-here, words-fed, row-starts}
 
-module _ {p : Plan} {k : ℕ} {a sums old : List ℕ} (row : RowWords p k a sums old) where
+module _ {p : Plan} {k from : ℕ} {a sums old : List ℕ} (row : RowWords p k from a sums old) where
   abbrev W : ℕ
   W = p .width
 

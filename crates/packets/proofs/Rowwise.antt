@@ -1,5 +1,5 @@
 -- Words with prediction, row by row: up to the end of a begun row, whole rows, and the words of the next. Assumes nothing.
-use mathlib.Core.Path.{_≡_, sym, ap, _∙_}
+use mathlib.Core.Path.{_≡_, refl, sym, ap, _∙_}
 use mathlib.Core.List.{List}
 use Prim.Native.Nat.{ℕ, _+_, _-_, _*_, _/_, _%_, _≤_, _<_}
 use native.Mathlib.Nat.{div-add-mod', mod-lt, mod-le, mod-add-mod, mod-self, mul-mod-left, add-mul-mod-self-right}
@@ -46,12 +46,14 @@ module _ {p : Plan} {k : ℕ} {raw sums old : List ℕ} (rows : RowsWords p k ra
   pub rows-first : (answer : Done) {x : List ℕ} → Converted (part 0 whole raw) (geometry p) (p .predict) (p .le) (p .«out_le») (part 0 whole old) answer x → WordsFed p k (part 0 whole raw) sums (part 0 whole old) sums x
   rows-first answer c = rows-fed (front-words feed whole whole-inside whole-words) (rows .row-starts) whole-rows answer c
 
-  pub rest-of-rows : (answer : Done) {x : List ℕ} → Converted (part 0 whole raw) (geometry p) (p .predict) (p .le) (p .«out_le») (part 0 whole old) answer x → RowWords p (k + whole) (part whole (length raw) raw) sums (part whole (length (halfway whole old x)) (halfway whole old x))
+  starts : (k + whole) % R ≡ 0
+  starts = ap (λ (n : ℕ). (k + n) % R) whole-is ∙ add-mul-mod-self-right k (length raw / R) R ∙ rows .row-starts
+
+  pub rest-of-rows : (answer : Done) {x : List ℕ} → Converted (part 0 whole raw) (geometry p) (p .predict) (p .le) (p .«out_le») (part 0 whole old) answer x → RowWords p (k + whole) 0 (part whole (length raw) raw) sums (part whole (length (halfway whole old x)) (halfway whole old x))
   rest-of-rows answer c = record {
     predicted = record { feed = back-words feed whole whole-inside whole-words (rows-first answer c); on = rows .predicted .on };
-    inside =
-        let starts : (k + whole) % R ≡ 0 = ap (λ (n : ℕ). (k + n) % R) whole-is ∙ add-mul-mod-self-right k (length raw / R) R ∙ rows .row-starts in
-        omega (arith, starts, length-part whole (length raw) raw whole-inside (omega arith), mod-lt (length raw) (sane .good .long), mod-le (length raw) R);
+    there = sym starts;
+    inside = omega (arith, starts, length-part whole (length raw) raw whole-inside (omega arith), mod-lt (length raw) (sane .good .long), mod-le (length raw) R);
   }
 
 -- the begun row first
@@ -80,13 +82,14 @@ module _ {p : Plan} {k : ℕ} {raw sums old : List ℕ} (predicted : Predicted p
       sym (add-mul-mod-self-right left (k % Row / W) W) ∙ ap (λ (n : ℕ). n % W) (omega (arith, groups, less)) ∙ row-words 0 (geometry p) (plan-sane .good)
 
   -- all within the row
-  pub within-row : length raw ≤ left → RowWords p k raw sums old
-  within-row short = record { predicted = predicted; inside = omega (arith, less) }
+  pub within-row : length raw ≤ left → RowWords p k (k % p .«row_bytes») raw sums old
+  within-row short = record { predicted = predicted; there = refl; inside = omega (arith, less) }
 
   module _ (long : left ≤ length raw) where
-    pub row-end : RowWords p k (part 0 left raw) sums (part 0 left old)
+    pub row-end : RowWords p k (k % p .«row_bytes») (part 0 left raw) sums (part 0 left old)
     row-end = record {
       predicted = record { feed = front-words begun left long left-words; on = predicted .on };
+      there = refl;
       inside = omega (arith, less, length-part 0 left raw (omega arith) long);
     }
 

@@ -47,8 +47,9 @@ pub record RowsWords (p : Plan) (k : ℕ) (raw sums out : List ℕ) : Type 0 whe
   pub predicted : Predicted p k raw sums out
   pub row-starts : k % p .«row_bytes» ≡ 0
 
-pub record RowWords (p : Plan) (k : ℕ) (raw sums out : List ℕ) : Type 0 where
+pub record RowWords (p : Plan) (k place : ℕ) (raw sums out : List ℕ) : Type 0 where
   pub predicted : Predicted p k raw sums out
+  pub there : place ≡ k % p .«row_bytes»
   pub inside : k % p .«row_bytes» + length raw ≤ p .«row_bytes»
 
 -- from a word's start on, with room for a begun word

@@ -78,12 +78,11 @@ fn begin(bytes: &[u8], tail: &mut [u8])
     }
 }
 
-// Words of one row; at its end the sums begin anew.
-fn in_row(plan: Plan, received: usize, raw: &[u8], sums: &mut [u64], out: &mut [u8])
-    requires { ⌜ RowWords plan received (now raw) (now sums) (now out) ⌝ }
+// Words of one row from a place in it on; at its end the sums begin anew.
+fn in_row(plan: Plan, received: usize, place: usize, raw: &[u8], sums: &mut [u64], out: &mut [u8])
+    requires { ⌜ RowWords plan received place (now raw) (now sums) (now out) ⌝ }
     ensures { λ r. ⌜ WordsFed plan received (now (raw .entry)) (now (sums .entry)) (now (out .entry)) (now (sums .exit)) (now (out .exit)) ⌝ }
 {
-    let place = received % plan.row_bytes;
     let first = whole(place, plan.width) % plan.channels;
     rows::resume_row(
         raw,
@@ -117,7 +116,14 @@ fn from_row(plan: Plan, received: usize, raw: &[u8], sums: &mut [u64], out: &mut
         plan.out_le,
         &mut out[start..rows],
     );
-    in_row(plan, received + rows, &raw[rows..], sums, &mut out[rows..])
+    in_row(
+        plan,
+        received + rows,
+        0,
+        &raw[rows..],
+        sums,
+        &mut out[rows..],
+    )
 }
 
 // Words with prediction: the row is finished first.
@@ -131,12 +137,13 @@ fn predicted(plan: Plan, received: usize, raw: &[u8], sums: &mut [u64], out: &mu
     }
     let left = plan.row_bytes - place;
     if raw.len() <= left {
-        return in_row(plan, received, raw, sums, out);
+        return in_row(plan, received, place, raw, sums, out);
     }
     let start: usize = 0;
     in_row(
         plan,
         received,
+        place,
         &raw[start..left],
         sums,
         &mut out[start..left],

@@ -25,7 +25,7 @@ fn steps_of(
     }
 }
 
-// Arms as in `narrow`.
+// Arms as in `sums`; the last serves any other width.
 pub(crate) fn steps(
     raw: &[u8],
     channels: usize,

@@ -15,7 +15,8 @@ fn sums_of(raw: &[u8], width: usize, le: bool, out_le: bool, start: &[u64], out:
     }
 }
 
-// Every arm is the same call: each knows its width and byte orders, and the compiler makes a loop of each.
+// Every arm is the same call: each knows its width and byte orders, and the compiler makes a loop of each. It does so wherever this is called
+// from, as no arm is rarer than one in 32 (docs/DECISIONS.md); the start is lent, so that the compiler reads the sums of a pixel at once.
 pub(crate) fn sums(raw: &[u8], width: usize, le: bool, out_le: bool, start: &[u64], out: &mut [u8])
     requires { ⌜ HeldFits (now raw) 1 width (now start) (now out) ⌝ }
     ensures { λ r. ⌜ ResumedInto (now (raw .entry)) 1 width le «out_le» (now (start .entry)) (now (out .entry)) (now (out .exit)) ⌝ }

@@ -25,7 +25,7 @@ inside c = omega arith
 room : (c : tie.After-in-row2) → left (start c .pre) ≤ length (now (start c .args .out))
 room c = omega (arith, inside c, words-room (start c .pre .feed))
 
-after-room : (c : tie.After-in-row2) → left (start c .pre) ≤ length (halfway (left (start c .pre)) (now (start c .args .out)) (c .in-row2 .last .1 .1 .1 .1 .0))
+after-room : (c : tie.After-in-row2) → left (start c .pre) ≤ length (halfway (left (start c .pre)) (now (start c .args .out)) (c .in-row2 .last .1 .1 .1 .1 .1 .0))
 after-room c =
     let begun = start c .pre in omega (arith, room c, same-words-out (begun .feed) (left begun) (inside c) (left-words begun) (c .in-row2 .ensures))
 
