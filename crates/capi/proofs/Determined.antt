@@ -4,9 +4,7 @@ use Prim.Native.Nat.{ℕ}
 use mathlib.Core.Path.{_≡_, refl, sym, ap, _∙_, subst}
 use mathlib.Core.Bool.{Bool, true, false}
 use mathlib.Core.List.{List}
-use native.Mathlib.Decide.{ℕ-discrete}
 use Rattle.answer.specs.Outcome.{Outcome, doneOutcome}
-use Rattle.answer.specs.declared.Done.{Done}
 use Rattle.words.specs.Promises.{ReadWord, LoadedWord, wordOutcome, loadedOutcome}
 use Rattle.words.proofs.Determined.{read-word-determined, load-determined}
 use Rattle.samples.specs.Sample.{Strip}

@@ -15,7 +15,7 @@ use Rattle.words.specs.Word.{modulus}
 use Rattle.words.specs.Promises.{served}
 use Rattle.words.proofs.Words.{digits-word, modulus-pos}
 use Rattle.words.proofs.Served.{served-some}
-use Rattle.samples.specs.Sample.{strip, alone, wordOf}
+use Rattle.samples.specs.Sample.{alone, wordOf}
 use Rattle.samples.specs.Promises.{stripFaults}
 use Rattle.samples.proofs.Sums.{in-row, sample-alone, sample-later}
 use Rattle.samples.proofs.Stored.{stored-byte}

@@ -15,7 +15,7 @@ use Rattle.answer.specs.Table.{table}
 use Rattle.answer.proofs.Filling.{table-at, table-same}
 use Rattle.words.specs.Word.{wordAt, plus}
 use Rattle.words.proofs.Words.{word-same}
-use Rattle.samples.specs.Sample.{Good, alone, wordOf, sample}
+use Rattle.samples.specs.Sample.{Good, alone, wordOf}
 use Rattle.samples.proofs.Sums.{sample-alone, sample-later}
 use Rattle.samples.proofs.Strips.{width-fits}
 use Rattle.packets.specs.declared.Plan.{Plan}

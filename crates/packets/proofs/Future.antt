@@ -16,7 +16,7 @@ use Rattle.packets.specs.declared.Packets.{Packets}
 use Rattle.packets.specs.declared.Plan.{Plan}
 use Rattle.packets.specs.State.{sampleOf, tailOf, sumsOf, stateAt, behind}
 use Rattle.packets.specs.Promises.{completes, continuedAt, continued}
-use Rattle.packets.proofs.Bytewise.{Run, runAt, finished}
+use Rattle.packets.proofs.Bytewise.{Run, runAt}
 use Rattle.laws.proofs.Groups.{more-groups}
 use Rattle.packets.proofs.Bytewise.{Sane, still, ready, went}
 use Rattle.packets.proofs.Agree.{run-agrees}

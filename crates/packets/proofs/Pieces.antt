@@ -11,7 +11,7 @@ use lib.ListN.{length, take, drop, length-append, List·getD-append}
 use Rattle.answer.specs.Outcome.{Outcome, done, unless, Sound, next, none, Promise}
 use Rattle.answer.specs.Table.{table}
 use Rattle.answer.specs.declared.Done.the-variants as Done-is
-use Rattle.answer.proofs.Filling.{length-table, table-same, table-join, whole}
+use Rattle.answer.proofs.Filling.{length-table, table-same, table-join}
 use Rattle.answer.proofs.Promised.{writes, passed, sound-here, sound-rest, sound-more, sound-done, finishes}
 use Rattle.words.specs.Digits.{digit}
 use Rattle.words.specs.Word.{Bytes, ordered}
@@ -21,7 +21,7 @@ use Rattle.samples.proofs.Strips.{bytes-words, good-checked}
 use Rattle.packets.specs.declared.Packets.{Packets}
 use Rattle.packets.specs.declared.Stepped.{Stepped}
 use Rattle.packets.specs.declared.Plan.{Plan}
-use Rattle.packets.specs.State.{geometry, sampleOf, stateAt, consistent, behind, most}
+use Rattle.packets.specs.State.{geometry, sampleOf, stateAt, consistent, most}
 use Rattle.packets.specs.Promises.{wroteOutcome, Took, Closed, closeFaults, pieceFaults, completes, continuedAt, continued, joined, Reached, Streamed, opened, fed}
 use Rattle.packets.proofs.Bytewise.{Sane}
 use Rattle.packets.proofs.Agree.{sample-agrees}

@@ -1,16 +1,16 @@
 -- The loops over a row, for every width: their invariants, how a turn keeps each, and what it comes to at the end. Assumes nothing.
 use mathlib.Core.Path.{_≡_, refl, sym, ap, _∙_}
 use mathlib.Core.Bool.{Bool, true, false}
-use mathlib.Core.List.{List, _++_}
+use mathlib.Core.List.{List}
 use Prim.Native.Nat.{ℕ, _+_, _-_, _*_, _/_, _%_, _≤_, _<_}
-use native.Mathlib.Nat.{mod-lt, mul-mod-left, add-zero, zero-mod, add-mod-right, add-mul-div-right, mul-div-cancel, div-add-mod', mod-eq-of-lt, mod-add-mod, add-mod-mod, le-div-iff-mul-le, add-mul, one-mul, mul-sub, mul-comm, le-mul-of-pos-right}
+use native.Mathlib.Nat.{mul-mod-left, add-zero, zero-mod, add-mod-right, add-mul-div-right, mul-div-cancel, div-add-mod', mod-eq-of-lt, mod-add-mod, add-mod-mod, le-div-iff-mul-le, add-mul, one-mul, mul-sub, mul-comm, le-mul-of-pos-right}
 use native.Mathlib.Numerals.{add-one}
 use native.Mathlib.Omega.{arith}
 use borrow.Author.Tests.{lt-ltb, le-ltb}
 use lib.Dec.{ltb}
 use native.Mathlib.Decide.{decLt}
 use Rattle.answer.specs.Outcome.{pick}
-use lib.ListN.{length, getD, List·getD-append}
+use lib.ListN.{length, getD}
 use Rattle.answer.specs.Table.{filled}
 use Rattle.answer.proofs.Filling.{length-stores, stores-filled, filled-front, filled-already, filled-same}
 use Rattle.words.specs.Digits.{digit}
@@ -21,8 +21,7 @@ use Rattle.samples.specs.Sample.{Strip, alone, wordOf, sample, difference, stor
 use Rattle.samples.proofs.Sums.{sample-alone, sample-later, difference-later}
 use Rattle.samples.proofs.Stored.{stored-byte}
 use Rattle.samples.proofs.Undo.{sample-below}
-use Rattle.words.specs.Promises.{served}
-use Rattle.rows.specs.Row.{oneRow, RowFits, HeldFits, FewFit, Led, meantAt, resumed, ResumedInto}
+use Rattle.rows.specs.Row.{oneRow, RowFits, HeldFits, FewFit, Led, meantAt, resumed}
 use Rattle.laws.proofs.Lists.{nothing, zeros}
 
 -- the buffer holds the words v, stored, up to `at`, of n bytes in all
@@ -108,13 +107,6 @@ resumed-none raw channels width le out-le old n some =
     filled-same (length raw) _ _ old (λ k h.
     ap (digit 256 (ordered out-le width (k % width)))
     (rw (zeros n (k / width % channels), add-zero) (mod-eq-of-lt (sample-below (oneRow raw channels width) true le raw some (k / width)))))
-
--- sums past those of its channels are nothing to a row
-pub resumed-more : (raw : List ℕ) (channels width : ℕ) (le out-le : Bool) (start more old : List ℕ) → 0 < channels → channels ≤ length start → filled (length raw) (storedAt width out-le (resumed raw channels width le start)) old ≡ filled (length raw) (storedAt width out-le (resumed raw channels width le (start ++ more))) old
-resumed-more raw channels width le out-le start more old some enough =
-    filled-same (length raw) _ _ old (λ k h.
-    ap (λ (s : ℕ). digit 256 (ordered out-le width (k % width)) (plus width (sample (oneRow raw channels width) true le raw (k / width)) s))
-    (sym (List·getD-append start more 0 (k / width % channels) (omega (arith, mod-lt (k / width) some)))))
 
 -- a row of at most four channels fits the loop of so many
 pub few-fits : {raw : List ℕ} {channels width : ℕ} {start old : List ℕ} {n : ℕ} → FewFit raw channels width start old → channels ≡ n → HeldFits raw n width start old

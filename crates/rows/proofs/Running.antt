@@ -1,31 +1,28 @@
 -- Words of a row that is taken up in its middle: the loop over them, whole pixels by the loops that hold the sums, and two runs that are one.
 -- Assumes nothing.
 use mathlib.Core.Path.{_≡_, refl, sym, ap, _∙_}
-use mathlib.Core.Bool.{Bool, true}
-use mathlib.Core.List.{List, [], _∷_, _++_}
+use mathlib.Core.Bool.{Bool}
+use mathlib.Core.List.{List, [], _∷_}
 use Prim.Native.Nat.{ℕ, zero, suc, _+_, _-_, _*_, _/_, _%_, _≤_, _<_}
-use native.Mathlib.Nat.{mod-lt, mod-eq-of-lt, mod-add-mod, add-mod-right, add-mul, one-mul, add-zero, zero-add, zero-div, div-self, add-div-right, div-add-mod', add-mul-div-right, add-mul-mod-self-right, mul-div-cancel, mul-mod-left, add-assoc, mul-comm, mul-assoc, le-div-iff-mul-le, div-lt-iff-lt-mul, mul-le-mul-right, zero-mul, zero-mod, add-suc, add-comm}
+use native.Mathlib.Nat.{mod-lt, mod-eq-of-lt, mod-add-mod, add-mod-right, add-mul, one-mul, add-zero, zero-add, zero-div, add-div-right, div-add-mod', mul-div-cancel, mul-mod-left, add-assoc, mul-assoc, le-div-iff-mul-le, div-lt-iff-lt-mul, mul-le-mul-right, zero-mul, zero-mod}
 use native.Mathlib.Numerals.{add-one}
 use native.Mathlib.Decide.{decLt, ℕ-discrete}
 use native.Mathlib.Omega.{arith}
 use lib.Dec.{eqb}
-use lib.ListN.{length, getD, set, take, drop, length-set}
+use lib.ListN.{length, getD, set, length-set}
 use lib.Seq.{ext-getD, getD-set-same, getD-set-other}
 use Rattle.answer.specs.Outcome.{pick}
 use Rattle.answer.specs.Table.{table, filled}
-use Rattle.answer.proofs.Filling.{part, length-part, length-table, table-same, filled-all, filled-front, filled-rest, filled-same, length-filled, halfway, front-filled, both-filled}
+use Rattle.answer.proofs.Filling.{length-table, table-same, filled-all, filled-front, filled-rest, filled-same, length-filled}
 use Rattle.words.specs.Digits.{digit}
-use Rattle.words.specs.Word.{ordered, wordAt, Put, plus, modulus}
-use Rattle.words.proofs.Words.{plus-below, digits-word}
+use Rattle.words.specs.Word.{ordered, wordAt, Put, plus}
+use Rattle.words.proofs.Words.{plus-below}
 use Rattle.words.proofs.Served.{served-some}
-use Rattle.words.specs.Promises.{served}
-use Rattle.laws.proofs.Groups.{turned, apart, groups-words, group-room}
+use Rattle.laws.proofs.Groups.{turned, apart, group-room}
 use Rattle.laws.proofs.Lists.{filled-one}
-use Rattle.samples.specs.Sample.{wordOf, storedAt}
-use Rattle.samples.specs.Sample as S
+use Rattle.samples.specs.Sample.{wordOf}
 use Rattle.samples.proofs.Stored.{stored-word}
-use Rattle.samples.proofs.Parts.{part-word}
-use Rattle.rows.specs.Row.{oneRow, RowFits, FewFit, resumed, ResumedInto}
+use Rattle.rows.specs.Row.{RowFits, FewFit, resumed, ResumedInto}
 use Rattle.rows.specs.Resume.{sumsAfter, sampleAfter, resumedAt, RunFits, RanInto, PixelsFit, LastFits, Held}
 use Rattle.rows.proofs.Loops.{Upto, upto-none, back-at, turn-room, ended, carried, carried-first, carried-later, carried-on}
 use Rattle.rows.proofs.Loops as L

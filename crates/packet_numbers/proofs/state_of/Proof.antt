@@ -1,6 +1,5 @@
 -- `packet_numbers::state_of` meets its contract: each number in its place. Assumes nothing.
 use borrow.Author.Needs.{needs}
-use native.Mathlib.Omega.{arith}
 use Rattle.packet_numbers.proofs.state_of.Statement.{statement}
 use Rattle.packet_numbers.proofs.state_of.Tie as tie
 

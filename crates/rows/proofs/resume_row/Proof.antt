@@ -2,7 +2,7 @@
 use borrow.Author.Needs.{needs}
 use borrow.Author.Tests.{eq-eqb, ne-eqb, lt-ltb, le-ltb, not-true, not-false}
 use native.Mathlib.Omega.{arith}
-use Prim.Native.Nat.{_≤_}
+use Prim.Native.Nat.{_%_, _≤_}
 use mathlib.Core.Path.{_≡_, sym, ap, _∙_}
 use mathlib.Core.Bool.{true, not}
 use mathlib.Core.List.{List}
@@ -11,7 +11,6 @@ use denote.Ref.{now}
 use Rattle.answer.specs.Outcome.{Fault, here, next, none, Sound}
 use Rattle.answer.proofs.Filling.{part, length-part}
 use Rattle.words.specs.Promises.{served}
-use Rattle.words.proofs.Served.{served-some}
 use Rattle.laws.proofs.Faults.{Past, past-none, past-one}
 use Rattle.rows.specs.Resume.{resumeFaults, RunFits}
 use Rattle.rows.proofs.Joining.{resume-refused, resume-done}
@@ -40,11 +39,14 @@ past3 c = past-one (past2 (c .before)) (ap not (lt-ltb _ _ (c .if3 .left)))
 past4 : (c : tie.Else4) → Past (faults (start1 (c .before .before .before))) (drop 4 (faults (start1 (c .before .before .before))))
 past4 c = past-one (past3 (c .before)) (le-ltb _ _ (c .if4 .left))
 
-past5 : (c : tie.Else5) → Past (faults (start1 (c .before .before .before .before))) (drop 5 (faults (start1 (c .before .before .before .before))))
-past5 c = past-one (past4 (c .before)) (ap not (eq-eqb _ _ (c .if5 .left)))
+whole : (c : tie.Else5) → let args = start1 (c .before .before .before .before .before) .args in length (now (args .raw)) % args .width ≡ 0
+whole c = sym (c .before .past .ensures) ∙ c .if5 .left
+
+past5 : (c : tie.Else5) → Past (faults (start1 (c .before .before .before .before .before))) (drop 5 (faults (start1 (c .before .before .before .before .before))))
+past5 c = past-one (past4 (c .before .before)) (ap not (eq-eqb _ _ (whole c)))
 
 abbrev start : (c : tie.Else6) → tie.Start
-start c = start1 (c .before .before .before .before .before)
+start c = start1 (c .before .before .before .before .before .before)
 
 room : (c : tie.Else6) → let args = start c .args in length (now (args .raw)) ≤ length (now (args .out))
 room c = omega (arith, c .if6 .left)
@@ -54,11 +56,11 @@ sound c = past5 (c .before) .sound (next (le-ltb _ _ (room c)) none)
 
 fits : (c : tie.Else6) → let args = start c .args in RunFits (now (args .raw)) (args .first) (args .channels) (args .width) (now (args .sums)) (part 0 (length (now (args .raw))) (now (args .out)))
 fits c = record {
-  takes = allowed (c .before .before .before .before .before);
-  here = c .before .before .before .if3 .left;
-  held = c .before .before .before .before .if2 .left;
-  long = c .before .before .if4 .left;
-  words = c .before .if5 .left;
+  takes = allowed (c .before .before .before .before .before .before);
+  here = c .before .before .before .before .if3 .left;
+  held = c .before .before .before .before .before .if2 .left;
+  long = c .before .before .before .if4 .left;
+  words = whole (c .before);
   same = length-part 0 (length (now (start c .args .raw))) (now (start c .args .out)) (omega arith) (room c) ∙ omega arith;
 }
 
@@ -71,9 +73,9 @@ resume-row-spec =
     (λ c. resume-refused (past1 (c .before) .first (here (lt-ltb _ _ (c .if2 .taken)))))
     (λ c. resume-refused (past2 (c .before) .first (here (ap not (le-ltb _ _ (c .if3 .taken))))))
     (λ c. resume-refused (past3 (c .before) .first (here (lt-ltb (length (now (start1 (c .before .before .before) .args .sums))) _ (c .if4 .taken)))))
-    (λ c. served-some _ (allowed (c .before .before .before)) .0)
-    (λ c. resume-refused (past4 (c .before) .first (here (ap not (ne-eqb _ _ (c .if5 .taken))))))
-    (λ c. resume-refused (past5 (c .before) .first (here (lt-ltb (length (now (start1 (c .before .before .before .before .before) .args .out))) _ (c .if6 .taken)))))
+    (λ c κs. search needs)
+    (λ c. resume-refused (past4 (c .before .before) .first (here (ap not (ne-eqb _ _ (λ e. c .if5 .taken (c .before .past .ensures ∙ e)))))))
+    (λ c. resume-refused (past5 (c .before) .first (here (lt-ltb (length (now (start1 (c .before .before .before .before .before .before) .args .out))) _ (c .if6 .taken)))))
     (λ c. search needs) (λ c. search needs) (λ c. search needs)
     (λ c κs. fits (c .before .before))
     (λ c. search needs)

@@ -1,6 +1,6 @@
 -- `capi::states::hamrisk_packets_piece` meets its contract: the number of what `piece` answers, and the bytes written. Assumes nothing.
 use borrow.Author.Needs.{needs}
-use mathlib.Core.Path.{_≡_, refl, sym, ap, _∙_}
+use mathlib.Core.Path.{sym, ap, _∙_}
 use denote.Ref.{now}
 use Rattle.packets.specs.declared.Wrote.{Wrote}
 use Rattle.packets.specs.Promises.{wroteOutcome}

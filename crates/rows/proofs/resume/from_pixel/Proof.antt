@@ -2,11 +2,9 @@
 use borrow.Author.Needs.{needs}
 use native.Mathlib.Omega.{arith}
 use native.Mathlib.Nat.{mod-le}
-use Prim.Native.Nat.{ℕ, _-_, _*_, _%_, _≤_, _<_}
-use mathlib.Core.Path.{_≡_}
+use Prim.Native.Nat.{ℕ, _-_, _*_, _%_}
 use lib.ListN.{length}
 use denote.Ref.{now}
-use Rattle.rows.specs.Resume.{PixelsFit}
 use Rattle.rows.proofs.Joining.{front-pixels, whole-inside, whole-words, whole-pixels, pixel-some, pixel-fits, back-run, both-ran}
 use Rattle.rows.proofs.resume.from_pixel.Statement.{statement}
 use Rattle.rows.proofs.resume.from_pixel.Tie as tie

@@ -2,10 +2,8 @@
 -- Assumes nothing.
 use borrow.Author.Needs.{needs}
 use native.Mathlib.Omega.{arith}
-use Prim.Native.Nat.{ℕ, _<_, _≤_, _*_}
-use mathlib.Core.Path.{_≡_}
-use mathlib.Core.List.{List, [], _∷_}
-use lib.ListN.{length, getD}
+use Prim.Native.Nat.{_<_, _≤_, _*_}
+use lib.ListN.{length}
 use denote.Ref.{now}
 use Rattle.rows.proofs.Running.{few-fit, none-ran, pixel-room, new-long, last-fits, pixels-ran}
 use Rattle.rows.proofs.resume.pixels.Statement.{statement}
