@@ -1,9 +1,9 @@
 -- The loops over a row, for every width: their invariants, how a turn keeps each, and what it comes to at the end. Assumes nothing.
 use mathlib.Core.Path.{_≡_, refl, sym, ap, _∙_}
 use mathlib.Core.Bool.{Bool, true, false}
-use mathlib.Core.List.{List}
-use Prim.Native.Nat.{ℕ, _+_, _-_, _*_, _/_, _%_, _≤_, _<_}
-use native.Mathlib.Nat.{mul-mod-left, add-zero, zero-mod, add-mod-right, add-mul-div-right, mul-div-cancel, div-add-mod', mod-eq-of-lt, mod-add-mod, add-mod-mod, le-div-iff-mul-le, add-mul, one-mul, mul-sub, mul-comm, le-mul-of-pos-right}
+use mathlib.Core.List.{List, [], _∷_}
+use Prim.Native.Nat.{ℕ, zero, suc, _+_, _-_, _*_, _/_, _%_, _≤_, _<_}
+use native.Mathlib.Nat.{mod-lt, mul-mod-left, add-zero, zero-mod, add-mod-right, add-mul-div-right, mul-div-cancel, div-add-mod', mod-eq-of-lt, mod-add-mod, add-mod-mod, le-div-iff-mul-le, add-mul, one-mul, mul-sub, mul-comm, le-mul-of-pos-right}
 use native.Mathlib.Numerals.{add-one}
 use native.Mathlib.Omega.{arith}
 use borrow.Author.Tests.{lt-ltb, le-ltb}
@@ -21,7 +21,7 @@ use Rattle.samples.specs.Sample.{Strip, alone, wordOf, sample, difference, stor
 use Rattle.samples.proofs.Sums.{sample-alone, sample-later, difference-later}
 use Rattle.samples.proofs.Stored.{stored-byte}
 use Rattle.samples.proofs.Undo.{sample-below}
-use Rattle.rows.specs.Row.{oneRow, RowFits, HeldFits, FewFit, Led, meantAt, resumed}
+use Rattle.rows.specs.Row.{oneRow, RowFits, HeldFits, FewFit, Led, meantAt, resumed, ResumedInto}
 use Rattle.laws.proofs.Lists.{nothing, zeros}
 
 -- the buffer holds the words v, stored, up to `at`, of n bytes in all
@@ -111,6 +111,27 @@ resumed-none raw channels width le out-le old n some =
 -- a row of at most four channels fits the loop of so many
 pub few-fits : {raw : List ℕ} {channels width : ℕ} {start old : List ℕ} {n : ℕ} → FewFit raw channels width start old → channels ≡ n → HeldFits raw n width start old
 few-fits row e = rw e at (row .row)
+
+-- its sums as four numbers
+abbrev pub fourOf : List ℕ → List ℕ
+fourOf start = getD start 0 0 ∷ getD start 1 0 ∷ getD start 2 0 ∷ getD start 3 0 ∷ []
+
+pub four-fit : {raw : List ℕ} {channels width : ℕ} {start old : List ℕ} → FewFit raw channels width start old → FewFit raw channels width (fourOf start) old
+four-fit fit = record { row = record { takes = fit .row .takes; fits = fit .row .fits; held = fit .few }; few = fit .few; four = omega arith }
+
+four-same : (start : List ℕ) (j : ℕ) → j < 4 → getD (fourOf start) j 0 ≡ getD start j 0
+four-same start zero h = refl
+four-same start (suc zero) h = refl
+four-same start (suc (suc zero)) h = refl
+four-same start (suc (suc (suc zero))) h = refl
+four-same start (suc (suc (suc (suc j)))) h = absurd (omega arith)
+
+pub four-all : (raw : List ℕ) (channels width : ℕ) (le out-le : Bool) (start old new : List ℕ) → FewFit raw channels width start old → ResumedInto raw channels width le out-le (fourOf start) old new → ResumedInto raw channels width le out-le start old new
+four-all raw channels width le out-le start old new fit is =
+    is
+    ∙ filled-same (length raw) _ _ old (λ k h.
+    ap (λ (s : ℕ). digit 256 (ordered out-le width (k % width)) (plus width (sample (oneRow raw channels width) true le raw (k / width)) s))
+    (four-same start (k / width % channels) (omega (arith, fit .few, mod-lt (k / width) (fit .row .fits .channel)))))
 
 -- a row at a width by another name
 pub known-fits : {raw : List ℕ} {channels width : ℕ} {start old : List ℕ} {known : ℕ} → width ≡ known → HeldFits raw channels width start old → HeldFits raw channels known start old

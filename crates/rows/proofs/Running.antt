@@ -175,7 +175,7 @@ module _ {raw : List ℕ} {channels width : ℕ} {start old : List ℕ} (fit : P
   row-fits = record { channel = run .here; wide = wide; groups = fit .pixels; room = omega (arith, run .same) }
 
   pub few-fit : channels ≤ 4 → FewFit raw channels width start old
-  few-fit h = record { row = record { takes = run .takes; fits = row-fits; held = sums-held }; few = h }
+  few-fit h = record { row = record { takes = run .takes; fits = row-fits; held = sums-held }; few = h; four = omega (arith, run .long) }
 
   pub none-ran : (le out-le : Bool) → length raw ≡ 0 → RanInto raw 0 channels width le out-le start start old
   none-ran le out-le e = record { sums = rw (e, zero-div width); wrote = empty old (run .same ∙ e) ∙ rw e }

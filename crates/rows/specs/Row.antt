@@ -75,6 +75,7 @@ pub record HeldFits (raw : List ℕ) (channels width : ℕ) (start out : List �
 pub record FewFit (raw : List ℕ) (channels width : ℕ) (start out : List ℕ) : Type 0 where
   pub row : HeldFits raw channels width start out
   pub few : channels ≤ 4
+  pub four : 4 ≤ length start
 
 -- what is known of a row past every refusal
 pub record RowServed (raw : List ℕ) (channels width : ℕ) (out : List ℕ) : Type 0 where

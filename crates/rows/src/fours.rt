@@ -1,6 +1,7 @@
 // A row of four channels, from the sums that they start with: each channel's sum stays in a local. A pixel is read before it is
 // written: the compiler cannot tell that the two slices are apart, and makes a vector of a pixel only so.
 use crate::word;
+ghost use mathlib.Core.Bool.{not};
 ghost use Rattle.rows.specs.Row.{HeldFits, ResumedInto};
 
 fn fours_of(raw: &[u8], width: usize, le: bool, out_le: bool, start: &[u64], out: &mut [u8])
@@ -29,44 +30,51 @@ fn fours_of(raw: &[u8], width: usize, le: bool, out_le: bool, start: &[u64], out
 }
 
 // Arms as in `sums`.
-pub(crate) fn fours(raw: &[u8], width: usize, le: bool, out_le: bool, start: &[u64], out: &mut [u8])
+pub(crate) fn alike(raw: &[u8], width: usize, le: bool, start: &[u64], out: &mut [u8])
     requires { ⌜ HeldFits (now raw) 4 width (now start) (now out) ⌝ }
-    ensures { λ r. ⌜ ResumedInto (now (raw .entry)) 4 width le «out_le» (now (start .entry)) (now (out .entry)) (now (out .exit)) ⌝ }
+    ensures { λ r. ⌜ ResumedInto (now (raw .entry)) 4 width le le (now (start .entry)) (now (out .entry)) (now (out .exit)) ⌝ }
 {
     if width == 1 {
-        fours_of(raw, width, le, out_le, start, out)
+        fours_of(raw, width, le, le, start, out)
     } else if width == 2 {
         match le {
-            true => match out_le {
-                true => fours_of(raw, width, le, out_le, start, out),
-                false => fours_of(raw, width, le, out_le, start, out),
-            },
-            false => match out_le {
-                true => fours_of(raw, width, le, out_le, start, out),
-                false => fours_of(raw, width, le, out_le, start, out),
-            },
+            true => fours_of(raw, width, le, le, start, out),
+            false => fours_of(raw, width, le, le, start, out),
         }
     } else if width == 4 {
         match le {
-            true => match out_le {
-                true => fours_of(raw, width, le, out_le, start, out),
-                false => fours_of(raw, width, le, out_le, start, out),
-            },
-            false => match out_le {
-                true => fours_of(raw, width, le, out_le, start, out),
-                false => fours_of(raw, width, le, out_le, start, out),
-            },
+            true => fours_of(raw, width, le, le, start, out),
+            false => fours_of(raw, width, le, le, start, out),
         }
     } else {
         match le {
-            true => match out_le {
-                true => fours_of(raw, 8, le, out_le, start, out),
-                false => fours_of(raw, 8, le, out_le, start, out),
-            },
-            false => match out_le {
-                true => fours_of(raw, 8, le, out_le, start, out),
-                false => fours_of(raw, 8, le, out_le, start, out),
-            },
+            true => fours_of(raw, 8, le, le, start, out),
+            false => fours_of(raw, 8, le, le, start, out),
+        }
+    }
+}
+
+// In the other order.
+pub(crate) fn turned(raw: &[u8], width: usize, le: bool, start: &[u64], out: &mut [u8])
+    requires { ⌜ HeldFits (now raw) 4 width (now start) (now out) ⌝ }
+    ensures { λ r. ⌜ ResumedInto (now (raw .entry)) 4 width le (not le) (now (start .entry)) (now (out .entry)) (now (out .exit)) ⌝ }
+{
+    if width == 1 {
+        fours_of(raw, width, le, !le, start, out)
+    } else if width == 2 {
+        match le {
+            true => fours_of(raw, width, le, !le, start, out),
+            false => fours_of(raw, width, le, !le, start, out),
+        }
+    } else if width == 4 {
+        match le {
+            true => fours_of(raw, width, le, !le, start, out),
+            false => fours_of(raw, width, le, !le, start, out),
+        }
+    } else {
+        match le {
+            true => fours_of(raw, 8, le, !le, start, out),
+            false => fours_of(raw, 8, le, !le, start, out),
         }
     }
 }

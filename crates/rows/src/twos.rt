@@ -1,6 +1,7 @@
 // A row of two channels, from the sums that they start with: each channel's sum stays in a local. A pixel is read before it is
 // written: the compiler cannot tell that the two slices are apart, and makes a vector of a pixel only so.
 use crate::word;
+ghost use mathlib.Core.Bool.{not};
 ghost use Rattle.rows.specs.Row.{HeldFits, ResumedInto};
 
 fn twos_of(raw: &[u8], width: usize, le: bool, out_le: bool, start: &[u64], out: &mut [u8])
@@ -21,44 +22,51 @@ fn twos_of(raw: &[u8], width: usize, le: bool, out_le: bool, start: &[u64], out:
 }
 
 // Arms as in `sums`.
-pub(crate) fn twos(raw: &[u8], width: usize, le: bool, out_le: bool, start: &[u64], out: &mut [u8])
+pub(crate) fn alike(raw: &[u8], width: usize, le: bool, start: &[u64], out: &mut [u8])
     requires { ⌜ HeldFits (now raw) 2 width (now start) (now out) ⌝ }
-    ensures { λ r. ⌜ ResumedInto (now (raw .entry)) 2 width le «out_le» (now (start .entry)) (now (out .entry)) (now (out .exit)) ⌝ }
+    ensures { λ r. ⌜ ResumedInto (now (raw .entry)) 2 width le le (now (start .entry)) (now (out .entry)) (now (out .exit)) ⌝ }
 {
     if width == 1 {
-        twos_of(raw, width, le, out_le, start, out)
+        twos_of(raw, width, le, le, start, out)
     } else if width == 2 {
         match le {
-            true => match out_le {
-                true => twos_of(raw, width, le, out_le, start, out),
-                false => twos_of(raw, width, le, out_le, start, out),
-            },
-            false => match out_le {
-                true => twos_of(raw, width, le, out_le, start, out),
-                false => twos_of(raw, width, le, out_le, start, out),
-            },
+            true => twos_of(raw, width, le, le, start, out),
+            false => twos_of(raw, width, le, le, start, out),
         }
     } else if width == 4 {
         match le {
-            true => match out_le {
-                true => twos_of(raw, width, le, out_le, start, out),
-                false => twos_of(raw, width, le, out_le, start, out),
-            },
-            false => match out_le {
-                true => twos_of(raw, width, le, out_le, start, out),
-                false => twos_of(raw, width, le, out_le, start, out),
-            },
+            true => twos_of(raw, width, le, le, start, out),
+            false => twos_of(raw, width, le, le, start, out),
         }
     } else {
         match le {
-            true => match out_le {
-                true => twos_of(raw, 8, le, out_le, start, out),
-                false => twos_of(raw, 8, le, out_le, start, out),
-            },
-            false => match out_le {
-                true => twos_of(raw, 8, le, out_le, start, out),
-                false => twos_of(raw, 8, le, out_le, start, out),
-            },
+            true => twos_of(raw, 8, le, le, start, out),
+            false => twos_of(raw, 8, le, le, start, out),
+        }
+    }
+}
+
+// In the other order.
+pub(crate) fn turned(raw: &[u8], width: usize, le: bool, start: &[u64], out: &mut [u8])
+    requires { ⌜ HeldFits (now raw) 2 width (now start) (now out) ⌝ }
+    ensures { λ r. ⌜ ResumedInto (now (raw .entry)) 2 width le (not le) (now (start .entry)) (now (out .entry)) (now (out .exit)) ⌝ }
+{
+    if width == 1 {
+        twos_of(raw, width, le, !le, start, out)
+    } else if width == 2 {
+        match le {
+            true => twos_of(raw, width, le, !le, start, out),
+            false => twos_of(raw, width, le, !le, start, out),
+        }
+    } else if width == 4 {
+        match le {
+            true => twos_of(raw, width, le, !le, start, out),
+            false => twos_of(raw, width, le, !le, start, out),
+        }
+    } else {
+        match le {
+            true => twos_of(raw, 8, le, !le, start, out),
+            false => twos_of(raw, 8, le, !le, start, out),
         }
     }
 }

@@ -43,7 +43,7 @@ transform-words-spec =
     let arm = c .before .before in
     let pre = arm .before .before .before .before .pre in
     let most = at-most-four arm .1 in
-    record { row = record { takes = pre .takes; fits = pre .fits; held = most }; few = most })
+    record { row = record { takes = pre .takes; fits = pre .fits; held = most }; few = most; four = omega arith })
     (λ c κs. search needs) (λ c. search needs)
     (λ c.
     let gone = c .before .before in

@@ -1,43 +1,44 @@
--- `rows::few::few` meets its contract: the loop of as many channels. Assumes nothing.
+-- `rows::few::few` meets its contract: the byte orders are alike or not. Assumes nothing.
 use borrow.Author.Needs.{needs}
 use native.Mathlib.Omega.{arith}
-use mathlib.Core.Path.{_≡_}
-use Rattle.rows.proofs.Loops.{few-fits}
+use mathlib.Core.Path.{sym, ap, _∙_}
+use mathlib.Core.Bool.{not}
+use denote.Ref.{now}
+use Rattle.rows.proofs.Loops.{four-fit, four-all}
 use Rattle.rows.proofs.few.few.Statement.{statement}
 use Rattle.rows.proofs.few.few.Tie as tie
-
-abbrev start : tie.After-slice-known → tie.Start
-start c = c .before .before .before
-
--- the channels that are left
-four : (c : tie.Else3) → start (c .before .before .before) .args .channels ≡ 4
-four c = let row = start (c .before .before .before) .pre in omega (arith, row .few, row .row .fits .channel)
 
 pub few-spec : {M : Type 1} → statement M
 few-spec =
     tie.close
     (tie.spec
-    (λ c κs. let arm = c .before in few-fits (start (arm .before) .pre) (arm .if1 .taken))
-    (λ c κs. let arm = c .before in few-fits (start (arm .before .before) .pre) (arm .if2 .taken))
-    (λ c κs. let arm = c .before in few-fits (start (arm .before .before .before) .pre) (arm .if3 .taken))
-    (λ c κs. let arm = c .before in few-fits (start (arm .before .before .before) .pre) (four arm))
+    (λ c κs. search needs)
+    (λ c. omega (arith, c .before .before .before .before .before .before .pre .four))
+    (λ c. omega (arith, c .before .before .before .before .before .before .before .pre .four))
+    (λ c. omega (arith, c .before .before .before .before .before .before .before .before .pre .four))
+    (λ c. omega (arith, c .before .before .before .before .before .before .before .before .before .pre .four))
+    (λ c κs. four-fit (c .before .before .before .before .before .before .before .before .before .before .pre))
+    (λ c. omega (arith, c .before .before .before .before .before .before .pre .four))
+    (λ c. omega (arith, c .before .before .before .before .before .before .before .pre .four))
+    (λ c. omega (arith, c .before .before .before .before .before .before .before .before .pre .four))
+    (λ c. omega (arith, c .before .before .before .before .before .before .before .before .before .pre .four))
+    (λ c κs. four-fit (c .before .before .before .before .before .before .before .before .before .before .pre))
+    (λ c κs. search needs)
+    (λ c. search needs)
+    (λ c. let done = c .before .before in let arm = done .before .before in rw (arm .if2 .taken ∙ sym (arm .before .if1 .taken)) (done .alike .ensures))
     (λ c. search needs)
     (λ c.
     let done = c .before .before in
-    let arm = done .before .before in
-    rw (arm .if1 .taken) (done .sums .ensures))
+    let begun = done .before .before .before .before .before .before .before .before .before .before .before in
+    let arm = done .before .before .before .before .before .before in
+    let args = begun .args in
+    rw (arm .if2 .left ∙ sym (ap not (arm .before .if1 .taken))) (four-all (now (args .raw)) (args .channels) (args .width) (args .le) (not (args .le)) (now (args .start)) (now (args .out)) _ (begun .pre) (done .turned .ensures)))
     (λ c. search needs)
     (λ c.
     let done = c .before .before in
-    let arm = done .before .before in
-    rw (arm .if2 .taken) (done .twos .ensures))
+    let begun = done .before .before .before .before .before .before .before .before .before .before .before in
+    let arm = done .before .before .before .before .before .before in
+    let args = begun .args in
+    rw (arm .if3 .taken ∙ sym (ap not (arm .before .if1 .left))) (four-all (now (args .raw)) (args .channels) (args .width) (args .le) (not (args .le)) (now (args .start)) (now (args .out)) _ (begun .pre) (done .turned2 .ensures)))
     (λ c. search needs)
-    (λ c.
-    let done = c .before .before in
-    let arm = done .before .before in
-    rw (arm .if3 .taken) (done .threes .ensures))
-    (λ c. search needs)
-    (λ c.
-    let done = c .before .before in
-    let arm = done .before .before in
-    rw (four arm) (done .fours .ensures)))
+    (λ c. let done = c .before .before in let arm = done .before .before in rw (arm .if3 .left ∙ sym (arm .before .if1 .left)) (done .alike2 .ensures)))
