@@ -23,7 +23,10 @@ pub(crate) fn alike(raw: &[u8], width: usize, le: bool, start: &[u64], out: &mut
     ensures { λ r. ⌜ ResumedInto (now (raw .entry)) 1 width le le (now (start .entry)) (now (out .entry)) (now (out .exit)) ⌝ }
 {
     if width == 1 {
-        sums_of(raw, width, le, le, start, out)
+        match le {
+            true => sums_of(raw, width, le, le, start, out),
+            false => sums_of(raw, width, le, le, start, out),
+        }
     } else if width == 2 {
         match le {
             true => sums_of(raw, width, le, le, start, out),
@@ -48,7 +51,10 @@ pub(crate) fn turned(raw: &[u8], width: usize, le: bool, start: &[u64], out: &mu
     ensures { λ r. ⌜ ResumedInto (now (raw .entry)) 1 width le (not le) (now (start .entry)) (now (out .entry)) (now (out .exit)) ⌝ }
 {
     if width == 1 {
-        sums_of(raw, width, le, !le, start, out)
+        match le {
+            true => sums_of(raw, width, le, !le, start, out),
+            false => sums_of(raw, width, le, !le, start, out),
+        }
     } else if width == 2 {
         match le {
             true => sums_of(raw, width, le, !le, start, out),

@@ -27,7 +27,10 @@ pub(crate) fn alike(raw: &[u8], width: usize, le: bool, start: &[u64], out: &mut
     ensures { λ r. ⌜ ResumedInto (now (raw .entry)) 2 width le le (now (start .entry)) (now (out .entry)) (now (out .exit)) ⌝ }
 {
     if width == 1 {
-        twos_of(raw, width, le, le, start, out)
+        match le {
+            true => twos_of(raw, width, le, le, start, out),
+            false => twos_of(raw, width, le, le, start, out),
+        }
     } else if width == 2 {
         match le {
             true => twos_of(raw, width, le, le, start, out),
@@ -52,7 +55,10 @@ pub(crate) fn turned(raw: &[u8], width: usize, le: bool, start: &[u64], out: &mu
     ensures { λ r. ⌜ ResumedInto (now (raw .entry)) 2 width le (not le) (now (start .entry)) (now (out .entry)) (now (out .exit)) ⌝ }
 {
     if width == 1 {
-        twos_of(raw, width, le, !le, start, out)
+        match le {
+            true => twos_of(raw, width, le, !le, start, out),
+            false => twos_of(raw, width, le, !le, start, out),
+        }
     } else if width == 2 {
         match le {
             true => twos_of(raw, width, le, !le, start, out),
