@@ -1,20 +1,33 @@
 -- Bytes from a word's start on: whole words, and the bytes of a begun word. Assumes nothing.
 use mathlib.Core.Path.{_≡_, sym, ap, _∙_}
+use mathlib.Core.Bool.{true}
 use mathlib.Core.List.{List}
 use Prim.Native.Nat.{ℕ, _+_, _-_, _*_, _/_, _%_, _≤_, _<_}
 use native.Mathlib.Nat.{div-add-mod', mod-lt, mod-le, mul-mod-left, add-mul-mod-self-right}
 use native.Mathlib.Omega.{arith}
+use borrow.Author.Tests.{not-false}
 use lib.ListN.{length}
 use Rattle.answer.proofs.Filling.{part, length-part, halfway}
+use Rattle.answer.proofs.Promised.{sound-here}
+use Rattle.words.specs.Promises.{served}
 use Rattle.packets.specs.declared.Plan.{Plan}
+use Rattle.packets.specs.declared.Packets.{Packets}
+use Rattle.packets.specs.State.{consistent}
 use Rattle.packets.specs.Promises.{noTail, completes, state}
 use Rattle.packets.specs.Steps.{BytesFeed, BytesFed, WordsFeed, WordsFed, FromWord, Begins}
 use Rattle.packets.proofs.Bytewise.{Sane}
+use Rattle.packets.proofs.Behind.{passed}
 use Rattle.packets.proofs.Joins.{complete-words, front-feeds, back-feeds, quiet-feds}
 use Rattle.packets.proofs.Parts.{head-room}
 use Rattle.packets.proofs.Tails.{plan-sane, begin-fed}
 
 -- the width that a state has is served
+pub width-served : (st : Packets) → consistent st ≡ true → served (st .plan .width) ≡ true
+width-served st e = not-false (served (st .plan .width)) (sound-here (passed st e .sound))
+
+pub served-width : {p : Plan} {k : ℕ} {bytes tail sums old : List ℕ} → BytesFeed p k bytes tail sums old → served (p .width) ≡ true
+served-width feed = width-served _ (feed .passes)
+
 module _ {p : Plan} {k : ℕ} {bytes tail sums old : List ℕ} (from : FromWord p k bytes tail sums old) (past : ℕ) (over : past ≡ length bytes % p .width) where
   sane : Sane p
   sane = plan-sane (from .feeds)

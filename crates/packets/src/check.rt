@@ -97,7 +97,7 @@ pub(crate) fn passes(plan: Plan, received: usize, tail: &[u8], sums: &[u64]) -> 
             if 1073741824 < received {
                 return false;
             }
-            if !tail_right(tail, words::past(received, plan.width)) {
+            if !tail_right(tail, feed::past(received, plan.width)) {
                 return false;
             }
             let begun = begun_channels(

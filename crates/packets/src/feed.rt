@@ -2,13 +2,13 @@
 use crate::Plan;
 ghost use mathlib.Core.Path.{_≡_};
 ghost use mathlib.Core.Bool.{true};
-ghost use Prim.Native.Nat.{_/_};
+ghost use Prim.Native.Nat.{_/_, _%_};
 ghost use lib.ListN.{getD};
 ghost use Rattle.words.specs.Promises.{served};
 ghost use Rattle.packets.specs.Promises.{noTail};
 ghost use Rattle.packets.specs.Steps.{Cleared, HoldFits, Held, Begins, RowWords, RowsWords, Predicted, WordsFeed, WordsFed, FromWord, BytesFeed, BytesFed};
 
-// The words of so many bytes: no division, as no width is a variable.
+// The words of so many bytes, and the bytes past them. With a constant width neither is a division.
 pub(crate) fn whole(n: usize, width: usize) -> usize
     requires { ⌜ served width ≡ true ⌝ }
     ensures { λ r. ⌜ r ≡ n / width ⌝ }
@@ -21,6 +21,21 @@ pub(crate) fn whole(n: usize, width: usize) -> usize
         n / 4
     } else {
         n / 8
+    }
+}
+
+pub(crate) fn past(n: usize, width: usize) -> usize
+    requires { ⌜ served width ≡ true ⌝ }
+    ensures { λ r. ⌜ r ≡ n % width ⌝ }
+{
+    if width == 1 {
+        0
+    } else if width == 2 {
+        n % 2
+    } else if width == 4 {
+        n % 4
+    } else {
+        n % 8
     }
 }
 
@@ -160,7 +175,7 @@ fn from_word(
     ensures { λ r. ⌜ BytesFed plan received (now (bytes .entry)) noTail (now (sums .entry)) (now (out .entry)) (now (tail .exit)) (now (sums .exit)) (now (out .exit)) ⌝ }
 {
     let start: usize = 0;
-    let end = bytes.len() - words::past(bytes.len(), plan.width);
+    let end = bytes.len() - past(bytes.len(), plan.width);
     words(
         plan,
         received,
@@ -183,7 +198,7 @@ pub(crate) fn feed(
     ensures { λ r. ⌜ BytesFed plan received (now (bytes .entry)) (now (tail .entry)) (now (sums .entry)) (now (out .entry)) (now (tail .exit)) (now (sums .exit)) (now (out .exit)) ⌝ }
 {
     let width = plan.width;
-    let fill = words::past(received, width);
+    let fill = past(received, width);
     if fill == 0 {
         return from_word(plan, received, bytes, tail, sums, out);
     }

@@ -86,8 +86,8 @@ pub fn lent_piece(
     if 1073741824 - received < bytes.len() {
         return Wrote::Refused(Refusal::Limit);
     }
-    let begun = words::past(received, plan.width) + bytes.len();
-    let completes = begun - words::past(begun, plan.width);
+    let begun = feed::past(received, plan.width) + bytes.len();
+    let completes = begun - feed::past(begun, plan.width);
     if out.len() < completes {
         return Wrote::Refused(Refusal::OutputTooSmall);
     }

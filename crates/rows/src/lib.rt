@@ -169,7 +169,7 @@ pub fn resume_row(
     if sums.len() < 64 {
         return Done::Refused(Refusal::Invalid);
     }
-    if words::past(raw.len(), width) != 0 {
+    if word::past(raw.len(), width) != 0 {
         return Done::Refused(Refusal::Invalid);
     }
     if out.len() < raw.len() {

@@ -2,7 +2,7 @@
 // least significant first, and put backwards as a number: so the compiler makes one load, one swap and one store of them, and many at once.
 ghost use mathlib.Core.Path.{_≡_};
 ghost use mathlib.Core.Bool.{true};
-ghost use Prim.Native.Nat.{_+_, _≤_, _<_};
+ghost use Prim.Native.Nat.{_+_, _%_, _≤_, _<_};
 ghost use lib.ListN.{length};
 ghost use Rattle.words.specs.Word.{wordAt, Within, Put, PutHalves, backwards, modulus, plus, minus};
 ghost use Rattle.words.specs.Promises.{served};
@@ -166,4 +166,20 @@ pub(crate) fn sum(raw: &[u8], at: usize, width: usize, le: bool, so_far: u64) ->
     ensures { λ r. ⌜ r ≡ plus width (wordAt (now (raw .entry)) at width le) «so_far» ⌝ }
 {
     add(get(raw, at, width, le), so_far, width)
+}
+
+// The bytes of so many that are past whole words: no division, as no width is a variable.
+pub(crate) fn past(n: usize, width: usize) -> usize
+    requires { ⌜ served width ≡ true ⌝ }
+    ensures { λ r. ⌜ r ≡ n % width ⌝ }
+{
+    if width == 1 {
+        0
+    } else if width == 2 {
+        n % 2
+    } else if width == 4 {
+        n % 4
+    } else {
+        n % 8
+    }
 }

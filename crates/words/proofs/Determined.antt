@@ -2,7 +2,7 @@
 use mathlib.Core.Path.{_≡_, refl, sym, ap, _∙_}
 use mathlib.Core.Bool.{Bool}
 use mathlib.Core.List.{List, [], _∷_}
-use Prim.Native.Nat.{ℕ, _%_}
+use Prim.Native.Nat.{ℕ}
 use Rattle.answer.specs.Outcome.{Outcome, done, refused}
 use Rattle.answer.proofs.Promised.{kind, kind-number, once}
 use Rattle.words.specs.declared.Word.{Word}
@@ -16,9 +16,6 @@ use Rattle.words.specs.Promises.{served, Joined, Placed, ReadWord, Loade
 
 pub width-served-determined : (width : ℕ) (a b : Bool) → a ≡ served width → b ≡ served width → a ≡ b
 width-served-determined width a b p q = p ∙ sym q
-
-pub past-determined : (n width a b : ℕ) → a ≡ n % width → b ≡ n % width → a ≡ b
-past-determined n width a b p q = p ∙ sym q
 
 joined-determined : (bytes : List ℕ) (x y : ℕ) → Joined bytes x → Joined bytes y → x ≡ y
 joined-determined bytes x y p q = p ∙ sym q

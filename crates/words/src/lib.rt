@@ -5,7 +5,7 @@ use answer::SampleAt;
 ghost use mathlib.Core.Path.{_≡_};
 ghost use mathlib.Core.Bool.{true};
 ghost use mathlib.Core.List.{[], _∷_};
-ghost use Prim.Native.Nat.{_+_, _%_, _≤_};
+ghost use Prim.Native.Nat.{_+_, _≤_};
 ghost use lib.ListN.{length};
 ghost use Rattle.words.specs.Word.{wordAt, backwards};
 ghost use Rattle.words.specs.Promises.{served, loadWidth, Joined, Placed, ReadWord, LoadedWord};
@@ -42,25 +42,6 @@ pub fn width_served(width: usize) -> bool
         return true;
     }
     width == 8
-}
-
-// The bytes of so many that are past whole words. At a width that is served it is no division.
-pub fn past(n: usize, width: usize) -> usize
-    ensures { λ r. ⌜ r ≡ n % width ⌝ }
-{
-    if width == 1 {
-        0
-    } else if width == 2 {
-        n % 2
-    } else if width == 4 {
-        n % 4
-    } else if width == 8 {
-        n % 8
-    } else if width == 0 {
-        n
-    } else {
-        n % width
-    }
 }
 
 // The word of two bytes, the least significant first.

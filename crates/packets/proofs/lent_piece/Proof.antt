@@ -14,6 +14,7 @@ use Rattle.packets.specs.State.{consistent, most}
 use Rattle.packets.specs.Promises.{state, completes, pieceFaults, lentFaults}
 use Rattle.packets.proofs.Behind.{passed, sane-sound}
 use Rattle.packets.proofs.Cut.{completes-is}
+use Rattle.packets.proofs.Wordstart.{width-served}
 use Rattle.packets.proofs.Answers.{lent-first, lent-sound, lent-refused, lent-done}
 use Rattle.packets.proofs.lent_piece.Statement.{statement}
 use Rattle.packets.proofs.lent_piece.Tie as tie
@@ -122,9 +123,9 @@ lent-piece-spec =
     (λ c. short c)
     (λ c. search needs) (λ c. search needs)
     returns-4
-    (λ c κs. search needs)
+    (λ c κs. width-served _ (passes (c .before)))
     (λ c. let within = c .before in let args = start3 (within .before) .args in omega (arith, c .past .ensures, mod-le (args .received) (args .plan .width), fits within))
-    (λ c κs. search needs)
+    (λ c κs. width-served _ (passes (c .before .before)))
     (λ c. rw (c .past2 .ensures) (mod-le _ _))
     (λ c. search needs) (λ c. search needs)
     returns-5

@@ -73,7 +73,7 @@ resume-row-spec =
     (λ c. resume-refused (past1 (c .before) .first (here (lt-ltb _ _ (c .if2 .taken)))))
     (λ c. resume-refused (past2 (c .before) .first (here (ap not (le-ltb _ _ (c .if3 .taken))))))
     (λ c. resume-refused (past3 (c .before) .first (here (lt-ltb (length (now (start1 (c .before .before .before) .args .sums))) _ (c .if4 .taken)))))
-    (λ c κs. search needs)
+    (λ c κs. allowed (c .before .before .before))
     (λ c. resume-refused (past4 (c .before .before) .first (here (ap not (ne-eqb _ _ (λ e. c .if5 .taken (c .before .past .ensures ∙ e)))))))
     (λ c. resume-refused (past5 (c .before) .first (here (lt-ltb (length (now (start1 (c .before .before .before .before .before .before) .args .out))) _ (c .if6 .taken)))))
     (λ c. search needs) (λ c. search needs) (λ c. search needs)

@@ -79,7 +79,7 @@ passes-spec =
     (λ c. search needs)
     (λ c. search needs)
     returns
-    (λ c κs. search needs)
+    (λ c κs. width-served (c .before))
     (λ c κs. start (c .before .before) .pre .0)
     returns-2
     (λ c. plan-sane (c .before .before .before .before .before) .good .long)

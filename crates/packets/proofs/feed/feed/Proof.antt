@@ -7,6 +7,7 @@ use lib.ListN.{length, take, drop}
 use denote.Ref.{now}
 use Rattle.answer.proofs.Filling.{halfway}
 use Rattle.packets.specs.Steps.{BytesFed}
+use Rattle.packets.proofs.Wordstart.{served-width}
 use Rattle.packets.proofs.Finish.{tail-stays, sums-stay, out-stays, fill-inside, uncut, uncut-fed, hold-fits, short-fed, word-room, head-fits, back-inside, tail-room, word-feed, rest-room, rest-from, all-fed}
 use Rattle.packets.proofs.feed.feed.Statement.{statement}
 use Rattle.packets.proofs.feed.feed.Tie as tie
@@ -44,7 +45,7 @@ pub feed-spec : {M : Type 1} → statement M
 feed-spec =
     tie.close
     (tie.spec
-    (λ c κs. search needs)
+    (λ c κs. served-width (c .before .before .before .before .pre))
     (λ c κs. let cut-at = c .before .before .before .before in uncut (start cut-at .pre) (cut-at .past .result) (cut-at .past .ensures) (omega arith))
     (λ c. search needs) (λ c. search needs) (λ c. search needs)
     (λ c.

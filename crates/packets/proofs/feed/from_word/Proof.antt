@@ -1,6 +1,6 @@
 -- `packets::feed::from_word` meets its contract: whole words, and the bytes of a begun word. Assumes nothing.
 use borrow.Author.Needs.{needs}
-use Rattle.packets.proofs.Wordstart.{past-inside, end-room, words-first, rest-held}
+use Rattle.packets.proofs.Wordstart.{served-width, past-inside, end-room, words-first, rest-held}
 use Rattle.packets.proofs.feed.from_word.Statement.{statement}
 use Rattle.packets.proofs.feed.from_word.Tie as tie
 
@@ -11,7 +11,7 @@ pub from-word-spec : {M : Type 1} → statement M
 from-word-spec =
     tie.close
     (tie.spec
-    (λ c κs. search needs)
+    (λ c κs. served-width (c .before .before .before .before .pre .feeds))
     (λ c. past-inside (c .before .before .before .before .before .pre) (c .past .result) (c .past .ensures))
     (λ c. search needs) (λ c. search needs) (λ c. search needs) (λ c. search needs) (λ c. search needs)
     (λ c. let cut = c .before .before in end-room (start cut .pre) (cut .past .result) (cut .past .ensures))
