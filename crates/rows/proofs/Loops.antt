@@ -133,10 +133,6 @@ four-all raw channels width le out-le start old new fit is =
     ap (λ (s : ℕ). digit 256 (ordered out-le width (k % width)) (plus width (sample (oneRow raw channels width) true le raw (k / width)) s))
     (four-same start (k / width % channels) (omega (arith, fit .few, mod-lt (k / width) (fit .row .fits .channel)))))
 
--- a row at a width by another name
-pub known-fits : {raw : List ℕ} {channels width : ℕ} {start old : List ℕ} {known : ℕ} → width ≡ known → HeldFits raw channels width start old → HeldFits raw channels known start old
-known-fits e row = rw e at row
-
 -- a row whose channels' sums are carried along, from any start
 module _ (le : Bool) (start : List ℕ) {raw : List ℕ} {channels width : ℕ} {out-le : Bool} {old : List ℕ} {at : ℕ} {out : List ℕ} (fits : RowFits raw channels width old) (is : Upto (resumed raw channels width le start) width out-le (length raw) old at out) where
   pub sum-room : at < length raw → at + width ≤ length raw

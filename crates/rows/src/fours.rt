@@ -49,11 +49,13 @@ pub(crate) fn alike(raw: &[u8], width: usize, le: bool, start: &[u64], out: &mut
             true => fours_of(raw, width, le, le, start, out),
             false => fours_of(raw, width, le, le, start, out),
         }
-    } else {
+    } else if width == 8 {
         match le {
-            true => fours_of(raw, 8, le, le, start, out),
-            false => fours_of(raw, 8, le, le, start, out),
+            true => fours_of(raw, width, le, le, start, out),
+            false => fours_of(raw, width, le, le, start, out),
         }
+    } else {
+        fours_of(raw, width, le, le, start, out)
     }
 }
 
@@ -77,10 +79,12 @@ pub(crate) fn turned(raw: &[u8], width: usize, le: bool, start: &[u64], out: &mu
             true => fours_of(raw, width, le, !le, start, out),
             false => fours_of(raw, width, le, !le, start, out),
         }
-    } else {
+    } else if width == 8 {
         match le {
-            true => fours_of(raw, 8, le, !le, start, out),
-            false => fours_of(raw, 8, le, !le, start, out),
+            true => fours_of(raw, width, le, !le, start, out),
+            false => fours_of(raw, width, le, !le, start, out),
         }
+    } else {
+        fours_of(raw, width, le, !le, start, out)
     }
 }

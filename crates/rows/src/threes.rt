@@ -45,11 +45,13 @@ pub(crate) fn alike(raw: &[u8], width: usize, le: bool, start: &[u64], out: &mut
             true => threes_of(raw, width, le, le, start, out),
             false => threes_of(raw, width, le, le, start, out),
         }
-    } else {
+    } else if width == 8 {
         match le {
-            true => threes_of(raw, 8, le, le, start, out),
-            false => threes_of(raw, 8, le, le, start, out),
+            true => threes_of(raw, width, le, le, start, out),
+            false => threes_of(raw, width, le, le, start, out),
         }
+    } else {
+        threes_of(raw, width, le, le, start, out)
     }
 }
 
@@ -73,10 +75,12 @@ pub(crate) fn turned(raw: &[u8], width: usize, le: bool, start: &[u64], out: &mu
             true => threes_of(raw, width, le, !le, start, out),
             false => threes_of(raw, width, le, !le, start, out),
         }
-    } else {
+    } else if width == 8 {
         match le {
-            true => threes_of(raw, 8, le, !le, start, out),
-            false => threes_of(raw, 8, le, !le, start, out),
+            true => threes_of(raw, width, le, !le, start, out),
+            false => threes_of(raw, width, le, !le, start, out),
         }
+    } else {
+        threes_of(raw, width, le, !le, start, out)
     }
 }

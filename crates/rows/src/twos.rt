@@ -41,11 +41,13 @@ pub(crate) fn alike(raw: &[u8], width: usize, le: bool, start: &[u64], out: &mut
             true => twos_of(raw, width, le, le, start, out),
             false => twos_of(raw, width, le, le, start, out),
         }
-    } else {
+    } else if width == 8 {
         match le {
-            true => twos_of(raw, 8, le, le, start, out),
-            false => twos_of(raw, 8, le, le, start, out),
+            true => twos_of(raw, width, le, le, start, out),
+            false => twos_of(raw, width, le, le, start, out),
         }
+    } else {
+        twos_of(raw, width, le, le, start, out)
     }
 }
 
@@ -69,10 +71,12 @@ pub(crate) fn turned(raw: &[u8], width: usize, le: bool, start: &[u64], out: &mu
             true => twos_of(raw, width, le, !le, start, out),
             false => twos_of(raw, width, le, !le, start, out),
         }
-    } else {
+    } else if width == 8 {
         match le {
-            true => twos_of(raw, 8, le, !le, start, out),
-            false => twos_of(raw, 8, le, !le, start, out),
+            true => twos_of(raw, width, le, !le, start, out),
+            false => twos_of(raw, width, le, !le, start, out),
         }
+    } else {
+        twos_of(raw, width, le, !le, start, out)
     }
 }
