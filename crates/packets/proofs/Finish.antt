@@ -1,21 +1,24 @@
 -- A word that was cut is finished, and bytes come from the next word's start on. Assumes nothing.
-use mathlib.Core.Path.{_≡_, sym, ap, _∙_, subst}
+use mathlib.Core.Path.{_≡_, refl, sym, ap, _∙_, subst}
 use mathlib.Core.List.{List, _++_}
 use Prim.Native.Nat.{ℕ, _+_, _-_, _*_, _/_, _%_, _≤_, _<_}
-use native.Mathlib.Nat.{div-add-mod', mod-le, add-mul, one-mul, mul-div-cancel, mul-mod-left}
+use native.Mathlib.Nat.{div-add-mod', mod-le, add-mul, one-mul, mul-mod-left}
+use native.Mathlib.Decide.{decLt}
 use native.Mathlib.Omega.{arith}
+use borrow.Author.Tests.{eq-eqb, ne-eqb}
 use lib.ListN.{length, take, drop}
 use Rattle.answer.proofs.Filling.{part, length-part, length-stores, length-filled, halfway}
 use Rattle.packets.specs.declared.Plan.{Plan}
 use Rattle.packets.specs.State.{behind}
 use Rattle.packets.specs.Promises.{noTail, completes, state}
-use Rattle.packets.specs.Steps.{BytesFeed, BytesFed, WordsFeed, WordsFed, FromWord, HoldFits, Held}
+use Rattle.packets.specs.Steps.{BytesFeed, BytesFed, WordsFeed, WordsFed, OneWord, FromWord, missing, Finishes, HoldFits, Held}
 use Rattle.packets.proofs.Bytewise.{Sane}
 use Rattle.packets.proofs.Behind.{Shaped}
 use Rattle.packets.proofs.Reaches.{shaped-at}
 use Rattle.packets.proofs.Joins.{front-feeds, back-feeds, same-out, both-feds}
+use Rattle.packets.proofs.Cut.{completes-end}
 use Rattle.packets.proofs.Parts.{head-room}
-use Rattle.packets.proofs.Tails.{plan-sane, fill-less, no-tail, hold-fed, word-feeds, finish-fed}
+use Rattle.packets.proofs.Tails.{plan-sane, fill-less, hold-fed, word-feeds, finish-fed}
 
 -- what is lent stays as long as it is
 module _ {p : Plan} {k : ℕ} {bytes tail sums old : List ℕ} (feed : BytesFeed p k bytes tail sums old) {tail′ sums′ new : List ℕ} (fed : BytesFed p k bytes tail sums old tail′ sums′ new) where
@@ -31,96 +34,115 @@ module _ {p : Plan} {k : ℕ} {bytes tail sums old : List ℕ} (feed : BytesFeed
   pub out-stays : length new ≡ length old
   out-stays = ap length (fed .wrote) ∙ length-filled (completes (state p k tail sums) (length bytes)) _ old (feed .room)
 
+-- the bytes that a word lacks, if it is begun
+missing-none : (fill width : ℕ) → fill ≡ 0 → missing fill width ≡ 0
+missing-none fill width e = rw (eq-eqb fill 0 e)
+
+missing-some : (fill width : ℕ) → 0 < fill → missing fill width ≡ width - fill
+missing-some fill width h = rw (ne-eqb fill 0 (λ e. omega arith))
+
+-- they come
+module _ {p : Plan} {k fill : ℕ} {bytes tail sums old : List ℕ} (from : Finishes p k fill bytes tail sums old) where
+  cut-sane : Sane p
+  cut-sane = plan-sane (from .feeds)
+
+  fill-some : fill < p .width
+  fill-some = rw (from .cut) (fill-less (from .feeds))
+
+  -- nothing was cut
+  pub uncut-fed : fill ≡ 0 → BytesFed p k bytes tail sums old tail sums old
+  uncut-fed e =
+      let none : length bytes ≡ 0 = from .ends ∙ missing-none fill (p .width) e in
+      hold-fed (from .feeds) (omega (arith, none, fill-less (from .feeds))) (rw none refl)
+
+  -- the word is finished
+  module _ (some : 0 < fill) where
+    end : k % p .width + length bytes ≡ p .width
+    end = omega (arith, from .ends, missing-some fill (p .width) some, from .cut, fill-some)
+
+    pub cut-fits : HoldFits bytes fill tail
+    cut-fits = record { room = omega (arith, end, from .cut, cut-sane .narrow, from .feeds .tails) }
+
+    pub back-inside : fill ≤ k
+    back-inside = rw (from .cut) (mod-le k (p .width))
+
+    module _ (tail′ : List ℕ) (held : Held bytes fill tail tail′) where
+      held-here : Held bytes (k % p .width) tail tail′
+      held-here = subst (λ (f : ℕ). Held bytes f tail tail′) (from .cut) held
+
+      pub tail-long : length tail′ ≡ 8
+      tail-long = ap length held ∙ length-stores tail fill (length bytes) _ ∙ from .feeds .tails
+
+      pub tail-room : p .width ≤ length tail′
+      tail-room = omega (arith, tail-long, cut-sane .narrow)
+
+      pub one-word : OneWord p (k - fill) (part 0 (p .width) tail′) sums old
+      one-word = record {
+        feed = subst (λ (f : ℕ). WordsFeed p (k - f) (part 0 (p .width) tail′) sums old) (sym (from .cut)) (word-feeds (from .feeds) end tail′ held-here);
+        one = length-part 0 (p .width) tail′ (omega arith) tail-room ∙ omega arith;
+      }
+
+      pub word-fed : {one x : List ℕ} → WordsFed p (k - fill) (part 0 (p .width) tail′) sums old one x → BytesFed p k bytes tail sums old noTail one x
+      word-fed {one} {x} word = finish-fed (from .feeds) end tail′ held-here (subst (λ (f : ℕ). WordsFed p (k - f) (part 0 (p .width) tail′) sums old one x) (from .cut) word)
+
+-- any bytes: those, and the others
 module _ {p : Plan} {k : ℕ} {bytes tail sums old : List ℕ} (feed : BytesFeed p k bytes tail sums old) (fill : ℕ) (is : fill ≡ k % p .width) where
-  pub sane : Sane p
+  sane : Sane p
   sane = plan-sane feed
 
   pub fill-inside : fill < p .width
   fill-inside = rw is (fill-less feed)
 
-  -- nothing is cut
-  pub uncut : fill ≡ 0 → FromWord p k bytes tail sums old
-  uncut e =
-      let between : k % p .width ≡ 0 = sym is ∙ e in
-      record { feeds = subst (λ (l : List ℕ). BytesFeed p k bytes l sums old) (no-tail feed between) feed; begins = between; long = feed .tails }
+  module _ (head : ℕ) (lacks : head ≡ missing fill (p .width)) where
+    head-less : head ≤ p .width - fill
+    head-less = by (decLt 0 fill)
+      where
+        by : Dec (0 < fill) → head ≤ p .width - fill
+        by (yes h) = omega (arith, lacks, missing-some fill (p .width) h)
+        by (no g) = omega (arith, lacks, missing-none fill (p .width) (omega arith))
 
-  pub uncut-fed : fill ≡ 0 → {tail′ sums′ new : List ℕ} → BytesFed p k bytes noTail sums old tail′ sums′ new → BytesFed p k bytes tail sums old tail′ sums′ new
-  uncut-fed e {tail′} {sums′} {new} fed = subst (λ (l : List ℕ). BytesFed p k bytes l sums old tail′ sums′ new) (sym (no-tail feed (sym is ∙ e))) fed
+    pub done-small : fill + head ≤ 8
+    done-small = omega (arith, head-less, fill-inside, sane .narrow)
 
-  -- too few bytes to finish the word
-  pub hold-fits : length bytes < p .width - fill → HoldFits bytes fill tail
-  hold-fits h = record { room = omega (arith, fill-inside, sane .narrow, feed .tails) }
+    -- too few bytes to finish the word
+    pub hold-fits : length bytes < head → HoldFits bytes fill tail
+    hold-fits h = record { room = omega (arith, head-less, fill-inside, sane .narrow, feed .tails) }
 
-  pub short-fed : length bytes < p .width - fill → {tail′ : List ℕ} → Held bytes fill tail tail′ → BytesFed p k bytes tail sums old tail′ sums old
-  short-fed h {tail′} = subst (λ (f : ℕ). length bytes < p .width - f → Held bytes f tail tail′ → BytesFed p k bytes tail sums old tail′ sums old) (sym is) (λ l e. hold-fed feed (omega (arith, fill-less feed)) e) h
+    pub short-fed : length bytes < head → {tail′ : List ℕ} → Held bytes fill tail tail′ → BytesFed p k bytes tail sums old tail′ sums old
+    short-fed h {tail′} e = hold-fed feed (omega (arith, head-less, fill-inside, is)) (subst (λ (f : ℕ). Held bytes f tail tail′) is e)
 
-  -- the word is finished
-  module _ (enough : p .width - fill ≤ length bytes) where
-    abbrev head : ℕ
-    head = p .width - fill
+    -- enough of them: so many bytes of a word are finished
+    module _ (enough : head ≤ length bytes) where
+      abbrev done : ℕ
+      done = fill + head
 
-    abbrev a : List ℕ
-    a = part 0 head bytes
+      at-word : (k + head) % p .width ≡ 0
+      at-word = by (decLt 0 fill)
+        where
+          by : Dec (0 < fill) → (k + head) % p .width ≡ 0
+          by (yes h) =
+              let next : k + head ≡ (k / p .width + 1) * p .width = omega (arith, lacks, missing-some fill (p .width) h, is, fill-inside, div-add-mod' k (p .width), add-mul (k / p .width) 1 (p .width), one-mul (p .width)) in
+              rw next (mul-mod-left (k / p .width + 1) (p .width))
+          by (no g) = let here : k + head ≡ k = omega (arith, lacks, missing-none fill (p .width) (omega arith)) in rw here (omega (arith, is))
 
-    a-long : length a ≡ head
-    a-long = length-part 0 head bytes (omega arith) enough ∙ omega arith
+      whole : done ≡ completes (state p k tail sums) head
+      whole = omega (arith, completes-end (state p k tail sums) (sane .good .wide) head, div-add-mod' k (p .width), is, div-add-mod' (k + head) (p .width), at-word)
 
-    next-word : k + head ≡ (k / p .width + 1) * p .width
-    next-word = omega (arith, is, fill-inside, div-add-mod' k (p .width), add-mul (k / p .width) 1 (p .width), one-mul (p .width))
+      pub done-room : done ≤ length old
+      done-room = head-room feed head done enough whole
 
-    one-word : p .width ≡ completes (state p k tail sums) head
-    one-word =
-        let words : (k + head) / p .width ≡ k / p .width + 1 = ap (λ (n : ℕ). n / p .width) next-word ∙ mul-div-cancel (k / p .width + 1) (sane .good .wide) in
-        let one : k / p .width + 1 - k / p .width ≡ 1 = omega arith in
-        sym (rw (words, one) (one-mul (p .width)))
+      pub finishes : Finishes p k fill (part 0 head bytes) tail sums (part 0 done old)
+      finishes = record { feeds = front-feeds feed head done enough whole; cut = is; ends = length-part 0 head bytes (omega arith) enough ∙ omega (arith, lacks) }
 
-    pub word-room : p .width ≤ length old
-    word-room = head-room feed head (p .width) enough one-word
-
-    front : BytesFeed p k a tail sums (part 0 (p .width) old)
-    front = front-feeds feed head (p .width) enough one-word
-
-    end : k % p .width + length a ≡ p .width
-    end = omega (arith, a-long, is, fill-inside)
-
-    pub head-fits : HoldFits a fill tail
-    head-fits = record { room = omega (arith, a-long, fill-inside, sane .narrow, feed .tails) }
-
-    pub back-inside : fill ≤ k
-    back-inside = rw is (mod-le k (p .width))
-
-    module _ (tail′ : List ℕ) (held : Held a fill tail tail′) where
-      held-here : Held a (k % p .width) tail tail′
-      held-here = subst (λ (f : ℕ). Held a f tail tail′) is held
-
-      pub tail-long : length tail′ ≡ 8
-      tail-long = ap length held ∙ length-stores tail fill (length a) _ ∙ feed .tails
-
-      pub tail-room : p .width ≤ length tail′
-      tail-room = omega (arith, tail-long, sane .narrow)
-
-      pub word-feed : WordsFeed p (k - fill) (part 0 (p .width) tail′) sums (part 0 (p .width) old)
-      word-feed = subst (λ (f : ℕ). WordsFeed p (k - f) (part 0 (p .width) tail′) sums (part 0 (p .width) old)) (sym is) (word-feeds front end tail′ held-here)
-
-      module _ {one x : List ℕ} (word : WordsFed p (k - fill) (part 0 (p .width) tail′) sums (part 0 (p .width) old) one x) where
-        word-fed : BytesFed p k a tail sums (part 0 (p .width) old) noTail one x
-        word-fed = finish-fed front end tail′ held-here (subst (λ (f : ℕ). WordsFed p (k - f) (part 0 (p .width) tail′) sums (part 0 (p .width) old) one x) is word)
-
+      module _ {tail₁ one x : List ℕ} (first : BytesFed p k (part 0 head bytes) tail sums (part 0 done old) tail₁ one x) where
         abbrev out : List ℕ
-        out = halfway (p .width) old x
+        out = halfway done old x
 
-        pub out-same : length out ≡ length old
-        out-same = same-out feed head (p .width) enough one-word word-fed
+        pub rest-room : done ≤ length out
+        rest-room = omega (arith, same-out feed head done enough whole first, done-room)
 
-        pub rest-room : p .width ≤ length out
-        rest-room = omega (arith, out-same, word-room)
+        pub rest-from : FromWord p (k + head) (part head (length bytes) bytes) tail₁ one (part done (length out) out)
+        rest-from = record { feeds = back-feeds feed head done enough whole first; begins = at-word }
 
-        pub rest-from : FromWord p (k + head) (part head (length bytes) bytes) tail′ one (part (p .width) (length out) out)
-        rest-from = record {
-          feeds = back-feeds feed head (p .width) enough one-word word-fed;
-          begins = ap (λ (n : ℕ). n % p .width) next-word ∙ mul-mod-left (k / p .width + 1) (p .width);
-          long = tail-long;
-        }
-
-        pub all-fed : {tail₂ sums₂ y : List ℕ} → BytesFed p (k + head) (part head (length bytes) bytes) noTail one (part (p .width) (length out) out) tail₂ sums₂ y → BytesFed p k bytes tail sums old tail₂ sums₂ (take (p .width) out ++ (y ++ drop (length out - p .width) (drop (p .width) out)))
-        all-fed = both-feds feed head (p .width) enough one-word word-fed
+        pub all-fed : {tail₂ sums₂ y : List ℕ} → BytesFed p (k + head) (part head (length bytes) bytes) tail₁ one (part done (length out) out) tail₂ sums₂ y → BytesFed p k bytes tail sums old tail₂ sums₂ (take done out ++ (y ++ drop (length out - done) (drop done out)))
+        all-fed = both-feds feed head done enough whole first

@@ -2,7 +2,8 @@
 use mathlib.Core.Path.{_≡_, refl, sym, ap, _∙_}
 use mathlib.Core.List.{List}
 use Prim.Native.Nat.{ℕ, _+_, _-_, _*_, _/_, _%_, _≤_, _<_}
-use native.Mathlib.Nat.{div-add-mod', mod-lt, mod-le, mod-add-mod, mod-self, mul-mod-left, add-mul-mod-self-right}
+use native.Mathlib.Nat.{div-add-mod', mod-lt, mod-le, mod-add-mod, mod-self, mul-mod-left, add-mul-mod-self-right, mod-eq-of-lt}
+use native.Mathlib.Decide.{decLt}
 use native.Mathlib.Omega.{arith}
 use lib.ListN.{length}
 use Rattle.answer.specs.declared.Done.{Done}
@@ -84,6 +85,14 @@ module _ {p : Plan} {k : ℕ} {raw sums old : List ℕ} (predicted : Predicted p
   -- all within the row
   pub within-row : length raw ≤ left → RowWords p k (k % p .«row_bytes») raw sums old
   within-row short = record { predicted = predicted; there = refl; inside = omega (arith, less) }
+
+  -- as one word is
+  pub word-in-row : length raw ≡ p .width → length raw ≤ left
+  word-in-row one = by (decLt left (p .width))
+    where
+      by : Dec (left < p .width) → length raw ≤ left
+      by (yes l) = absurd (omega (arith, less, left-words, mod-eq-of-lt l))
+      by (no g) = omega (arith, one)
 
   module _ (long : left ≤ length raw) where
     pub row-end : RowWords p k (k % p .«row_bytes») (part 0 left raw) sums (part 0 left old)

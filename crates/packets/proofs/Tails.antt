@@ -19,7 +19,7 @@ use Rattle.packets.specs.declared.Plan.{Plan}
 use Rattle.packets.specs.declared.Packets.{Packets}
 use Rattle.packets.specs.State.{tailAt, tailOf, sumsOf, stateAt, consistent, behind, most}
 use Rattle.packets.specs.Promises.{noTail, completes, continuedAt, continued, state}
-use Rattle.packets.specs.Steps.{Fed, BytesFeed, BytesFed, WordsFeed, WordsFed, Held, Begins}
+use Rattle.packets.specs.Steps.{Fed, BytesFeed, BytesFed, WordsFeed, WordsFed, Held}
 use Rattle.packets.proofs.Bytewise.{Sane, tail-none, same-words}
 use Rattle.packets.proofs.Agree.{sums-agree}
 use Rattle.packets.proofs.Behind.{Passed, passed, Shaped, sane-sound, behind-length, tail-behind, sums-behind}
@@ -139,12 +139,14 @@ module _ {p : Plan} {k : ℕ} {b tail sums old : List ℕ} (feed : BytesFeed p k
             ∙ tail-zero j (omega arith)
             ∙ sym (rw (le-ltb j fill (omega arith)) (past-end b (j - fill) (omega arith)))
 
-    -- at the front, the others being gone
-    pub begin-fed : k % p .width ≡ 0 → (before : List ℕ) {tail′ : List ℕ} → length before ≡ 8 → Begins b before tail′ → BytesFed p k b tail sums old tail′ sums old
-    begin-fed e before {tail′} long is =
-        held-fed (ap length is ∙ length-table (length before) _ ∙ long) (λ j h.
-        let none : j - k % p .width ≡ j = omega (arith, e) in
-        ap (λ (x : List ℕ). getD x j 0) is ∙ table-at (length before) (λ i. getD b i 0) j (omega (arith, long)) ∙ sym (rw (le-ltb j (k % p .width) (omega (arith, e)), none)))
+-- bytes stored over all of a tail
+pub overwritten : (tail bytes : List ℕ) {tail′ : List ℕ} → length bytes ≡ length tail → Held bytes 0 tail tail′ → tail′ ≡ bytes
+overwritten tail bytes {tail′} all held =
+    ext-getD 0 tail′ bytes (same ∙ sym all) (λ j h.
+    ap (λ (x : List ℕ). getD x j 0) held ∙ (rw (zero-add j) at (stores-at tail 0 (length bytes) (λ i. getD bytes i 0) j (omega (arith, same, all)) (omega (arith, all)))))
+  where
+    same : length tail′ ≡ length tail
+    same = ap length held ∙ length-stores tail 0 (length bytes) (λ i. getD bytes i 0)
 
 -- a word that was cut, taken with its first bytes
 module _ {p : Plan} {k : ℕ} {a tail sums old : List ℕ} (feed : BytesFeed p k a tail sums old) (end : k % p .width + length a ≡ p .width) where

@@ -1,9 +1,11 @@
 -- What the functions that take a piece's bytes need and do. Assumes nothing.
-use Prim.Native.Nat.{ℕ, _+_, _%_, _≤_}
+use Prim.Native.Nat.{ℕ, _+_, _-_, _%_, _≤_}
 use mathlib.Core.Path.{_≡_}
 use mathlib.Core.Bool.{true}
 use mathlib.Core.List.{List}
+use lib.Dec.{eqb}
 use lib.ListN.{length, getD}
+use Rattle.answer.specs.Outcome.{pick}
 use Rattle.answer.specs.Table.{table, filled, stores}
 use Rattle.packets.specs.declared.Plan.{Plan}
 use Rattle.packets.specs.declared.Packets.{Packets}
@@ -52,11 +54,30 @@ pub record RowWords (p : Plan) (k place : ℕ) (raw sums out : List ℕ) : Type 
   pub there : place ≡ k % p .«row_bytes»
   pub inside : k % p .«row_bytes» + length raw ≤ p .«row_bytes»
 
--- from a word's start on, with room for a begun word
+-- up to the row's end, and past it
+pub record Across (p : Plan) (k : ℕ) (raw sums out : List ℕ) : Type 0 where
+  pub predicted : Predicted p k raw sums out
+  pub enough : p .«row_bytes» - k % p .«row_bytes» ≤ length raw
+
+-- one word
+pub record OneWord (p : Plan) (k : ℕ) (raw sums out : List ℕ) : Type 0 where
+  pub feed : WordsFeed p k raw sums out
+  pub one : length raw ≡ p .width
+
+-- from a word's start on
 pub record FromWord (p : Plan) (k : ℕ) (bytes tail sums out : List ℕ) : Type 0 where
-  pub feeds : BytesFeed p k bytes noTail sums out
+  pub feeds : BytesFeed p k bytes tail sums out
   pub begins : k % p .width ≡ 0
-  pub long : length tail ≡ 8
+
+-- the bytes that a word lacks of which some have come
+abbrev pub missing : ℕ → ℕ → ℕ
+missing fill width = pick (eqb fill 0) 0 (width - fill)
+
+-- those, and no others
+pub record Finishes (p : Plan) (k fill : ℕ) (bytes tail sums out : List ℕ) : Type 0 where
+  pub feeds : BytesFeed p k bytes tail sums out
+  pub cut : fill ≡ k % p .width
+  pub ends : length bytes ≡ missing fill (p .width)
 
 -- nothing is left in a list
 abbrev pub Cleared : List ℕ → List ℕ → Type 0
@@ -68,7 +89,3 @@ pub record HoldFits (bytes : List ℕ) (fill : ℕ) (tail : List ℕ) : Type 0 w
 
 abbrev pub Held : List ℕ → ℕ → List ℕ → List ℕ → Type 0
 Held bytes fill old new = new ≡ stores old fill (length bytes) (λ i. getD bytes i 0)
-
--- bytes at the front of the tail, and 0 past them
-abbrev pub Begins : List ℕ → List ℕ → List ℕ → Type 0
-Begins bytes old new = new ≡ table (length old) (λ j. getD bytes j 0)

@@ -6,7 +6,7 @@ ghost use mathlib.Core.Path.{_≡_};
 ghost use mathlib.Core.Bool.{true, _||_};
 ghost use Prim.Native.Nat.{_+_, _≤_};
 ghost use lib.Dec.{eqb, ltb};
-ghost use lib.ListN.{length};
+ghost use lib.ListN.{length, getD};
 ghost use Rattle.answer.specs.Outcome.{pick};
 ghost use Rattle.words.specs.Word.{modulus};
 ghost use Rattle.words.specs.Promises.{served};
@@ -64,18 +64,32 @@ fn sums_small(sums: &[u64], width: usize, begun: usize) -> bool
     right
 }
 
-// And no sum past them: apart, so that the compiler looks at many at once.
+// Whether all are 0.
+fn none(s: &[u64]) -> bool
+    ensures { λ r. ⌜ r ≡ every (length (now (s .entry))) (λ i. eqb (getD (now (s .entry)) i 0) 0) ⌝ }
+{
+    let mut any: u64 = 0;
+    let mut i: usize = 0;
+    while i < s.len() {
+        any = any | s[i];
+        i += 1;
+    }
+    any == 0
+}
+
+// And no sum past them. With up to four channels most of these are at fixed places, which the compiler looks at in one go.
 fn sums_right(sums: &[u64], width: usize, begun: usize) -> bool
     requires { ⌜ (served width ≡ true) × ((length (now sums) ≡ 64) × (begun ≤ 64)) ⌝ }
     ensures { λ r. ⌜ r ≡ sumsRight (now (sums .entry)) width begun ⌝ }
 {
-    let mut right = sums_small(sums, width, begun);
-    let mut i = begun;
-    while i < 64 {
-        right = right & (sums[i] == 0);
-        i += 1;
+    let few: usize = 4;
+    let end: usize = 64;
+    let right = sums_small(sums, width, begun);
+    if begun <= few {
+        right & none(&sums[begun..few]) & none(&sums[few..end])
+    } else {
+        right & none(&sums[begun..end])
     }
-    right
 }
 
 fn begun_channels(predict: bool, begun: usize, channels: usize) -> usize

@@ -2,11 +2,9 @@
 use crate::Plan;
 ghost use mathlib.Core.Path.{_≡_};
 ghost use mathlib.Core.Bool.{true};
-ghost use Prim.Native.Nat.{_/_, _%_};
-ghost use lib.ListN.{getD};
+ghost use Prim.Native.Nat.{_/_, _%_, _≤_};
 ghost use Rattle.words.specs.Promises.{served};
-ghost use Rattle.packets.specs.Promises.{noTail};
-ghost use Rattle.packets.specs.Steps.{Cleared, HoldFits, Held, Begins, RowWords, RowsWords, Predicted, WordsFeed, WordsFed, FromWord, BytesFeed, BytesFed};
+ghost use Rattle.packets.specs.Steps.{Cleared, HoldFits, Held, RowWords, RowsWords, Across, Predicted, OneWord, WordsFeed, WordsFed, FromWord, missing, Finishes, BytesFeed, BytesFed};
 
 // The words of so many bytes, and the bytes past them. With a constant width neither is a division.
 pub(crate) fn whole(n: usize, width: usize) -> usize
@@ -61,23 +59,6 @@ fn hold(bytes: &[u8], fill: usize, tail: &mut [u8])
     }
 }
 
-fn byte_or_none(bytes: &[u8], i: usize) -> u8
-    ensures { λ r. ⌜ r ≡ getD (now (bytes .entry)) i 0 ⌝ }
-{
-    if i < bytes.len() { bytes[i] } else { 0 }
-}
-
-// The bytes of a begun word, and 0 past them.
-fn begin(bytes: &[u8], tail: &mut [u8])
-    ensures { λ r. ⌜ Begins (now (bytes .entry)) (now (tail .entry)) (now (tail .exit)) ⌝ }
-{
-    let mut i: usize = 0;
-    while i < tail.len() {
-        tail[i] = byte_or_none(bytes, i);
-        i += 1;
-    }
-}
-
 // Words of one row from a place in it on; at its end the sums begin anew.
 fn in_row(plan: Plan, received: usize, place: usize, raw: &[u8], sums: &mut [u64], out: &mut [u8])
     requires { ⌜ RowWords plan received place (now raw) (now sums) (now out) ⌝ }
@@ -126,20 +107,17 @@ fn from_row(plan: Plan, received: usize, raw: &[u8], sums: &mut [u64], out: &mut
     )
 }
 
-// Words with prediction: the row is finished first.
-fn predicted(plan: Plan, received: usize, raw: &[u8], sums: &mut [u64], out: &mut [u8])
-    requires { ⌜ Predicted plan received (now raw) (now sums) (now out) ⌝ }
+// Words that reach the row's end: it is finished first.
+fn across(plan: Plan, received: usize, raw: &[u8], sums: &mut [u64], out: &mut [u8])
+    requires { ⌜ Across plan received (now raw) (now sums) (now out) ⌝ }
     ensures { λ r. ⌜ WordsFed plan received (now (raw .entry)) (now (sums .entry)) (now (out .entry)) (now (sums .exit)) (now (out .exit)) ⌝ }
 {
     let place = received % plan.row_bytes;
     if place == 0 {
         return from_row(plan, received, raw, sums, out);
     }
-    let left = plan.row_bytes - place;
-    if raw.len() <= left {
-        return in_row(plan, received, place, raw, sums, out);
-    }
     let start: usize = 0;
+    let left = plan.row_bytes - place;
     in_row(
         plan,
         received,
@@ -149,6 +127,18 @@ fn predicted(plan: Plan, received: usize, raw: &[u8], sums: &mut [u64], out: &mu
         &mut out[start..left],
     );
     from_row(plan, received + left, &raw[left..], sums, &mut out[left..])
+}
+
+// Words with prediction.
+fn predicted(plan: Plan, received: usize, raw: &[u8], sums: &mut [u64], out: &mut [u8])
+    requires { ⌜ Predicted plan received (now raw) (now sums) (now out) ⌝ }
+    ensures { λ r. ⌜ WordsFed plan received (now (raw .entry)) (now (sums .entry)) (now (out .entry)) (now (sums .exit)) (now (out .exit)) ⌝ }
+{
+    let place = received % plan.row_bytes;
+    if raw.len() < plan.row_bytes - place {
+        return in_row(plan, received, place, raw, sums, out);
+    }
+    across(plan, received, raw, sums, out)
 }
 
 // Words: without prediction they need no row.
@@ -172,7 +162,7 @@ fn from_word(
     out: &mut [u8],
 )
     requires { ⌜ FromWord plan received (now bytes) (now tail) (now sums) (now out) ⌝ }
-    ensures { λ r. ⌜ BytesFed plan received (now (bytes .entry)) noTail (now (sums .entry)) (now (out .entry)) (now (tail .exit)) (now (sums .exit)) (now (out .exit)) ⌝ }
+    ensures { λ r. ⌜ BytesFed plan received (now (bytes .entry)) (now (tail .entry)) (now (sums .entry)) (now (out .entry)) (now (tail .exit)) (now (sums .exit)) (now (out .exit)) ⌝ }
 {
     let start: usize = 0;
     let end = bytes.len() - past(bytes.len(), plan.width);
@@ -183,7 +173,51 @@ fn from_word(
         sums,
         &mut out[start..end],
     );
-    begin(&bytes[end..], tail)
+    hold(&bytes[end..], 0, tail)
+}
+
+// One word, which lies in one row. Apart from `words`, so that the compiler has one place for those.
+fn word(plan: Plan, received: usize, raw: &[u8], sums: &mut [u64], out: &mut [u8])
+    requires { ⌜ OneWord plan received (now raw) (now sums) (now out) ⌝ }
+    ensures { λ r. ⌜ WordsFed plan received (now (raw .entry)) (now (sums .entry)) (now (out .entry)) (now (sums .exit)) (now (out .exit)) ⌝ }
+{
+    if plan.predict {
+        let place = received % plan.row_bytes;
+        return in_row(plan, received, place, raw, sums, out);
+    }
+    samples::reorder(raw, plan.width, plan.le, plan.out_le, out);
+}
+
+// The word that was cut, if one was.
+fn finish(
+    plan: Plan,
+    received: usize,
+    fill: usize,
+    bytes: &[u8],
+    tail: &mut [u8],
+    sums: &mut [u64],
+    out: &mut [u8],
+)
+    requires { ⌜ Finishes plan received fill (now bytes) (now tail) (now sums) (now out) ⌝ }
+    ensures { λ r. ⌜ BytesFed plan received (now (bytes .entry)) (now (tail .entry)) (now (sums .entry)) (now (out .entry)) (now (tail .exit)) (now (sums .exit)) (now (out .exit)) ⌝ }
+{
+    if fill == 0 {
+        return;
+    }
+    let start: usize = 0;
+    let width = plan.width;
+    let none = [0u8; 8];
+    hold(bytes, fill, tail);
+    word(plan, received - fill, &tail[start..width], sums, out);
+    hold(&none, 0, tail)
+}
+
+// The bytes that finish a word of which some have come.
+fn missing(fill: usize, width: usize) -> usize
+    requires { ⌜ fill ≤ width ⌝ }
+    ensures { λ r. ⌜ r ≡ missing fill width ⌝ }
+{
+    if fill == 0 { 0 } else { width - fill }
 }
 
 pub(crate) fn feed(
@@ -197,23 +231,21 @@ pub(crate) fn feed(
     requires { ⌜ BytesFeed plan received (now bytes) (now tail) (now sums) (now out) ⌝ }
     ensures { λ r. ⌜ BytesFed plan received (now (bytes .entry)) (now (tail .entry)) (now (sums .entry)) (now (out .entry)) (now (tail .exit)) (now (sums .exit)) (now (out .exit)) ⌝ }
 {
-    let width = plan.width;
-    let fill = past(received, width);
-    if fill == 0 {
-        return from_word(plan, received, bytes, tail, sums, out);
-    }
-    let head = width - fill;
+    let fill = past(received, plan.width);
+    let head = missing(fill, plan.width);
     if bytes.len() < head {
         return hold(bytes, fill, tail);
     }
     let start: usize = 0;
-    hold(&bytes[start..head], fill, tail);
-    words(
+    let done = fill + head;
+    finish(
         plan,
-        received - fill,
-        &tail[start..width],
+        received,
+        fill,
+        &bytes[start..head],
+        tail,
         sums,
-        &mut out[start..width],
+        &mut out[start..done],
     );
     from_word(
         plan,
@@ -221,6 +253,6 @@ pub(crate) fn feed(
         &bytes[head..],
         tail,
         sums,
-        &mut out[width..],
+        &mut out[done..],
     )
 }

@@ -4,8 +4,10 @@ use mathlib.Core.Path.{_≡_, refl, sym, ap, _∙_}
 use mathlib.Core.Bool.{Bool, true}
 use mathlib.Core.List.{List, _++_}
 use Prim.Native.Nat.{ℕ, zero, suc, _+_, _-_, _*_, _/_, _%_, _≤_, _<_}
-use native.Mathlib.Nat.{mod-add-mod, add-mul, one-mul, add-zero, zero-add, add-suc, add-comm, add-assoc, div-add-mod', add-mul-div-right, add-mul-mod-self-right, div-lt-iff-lt-mul, mul-le-mul-right, mul-le-mul, mul-pos, mul-assoc, mul-mod-left, mul-div-cancel, mod-self, sub-zero}
+use native.Mathlib.Nat.{mod-add-mod, add-mul, one-mul, add-zero, zero-add, add-suc, add-comm, add-assoc, div-add-mod', add-mul-div-right, add-mul-mod-self-right, div-lt-iff-lt-mul, mul-le-mul-right, mul-le-mul, mul-pos, mul-assoc, mul-mod-left, mul-div-cancel, mod-self, sub-zero, zero-div, zero-mod}
+use native.Mathlib.Decide.{decLt}
 use native.Mathlib.Omega.{arith}
+use borrow.Author.Tests.{eq-eqb, ne-eqb, lt-ltb, le-ltb}
 use lib.ListN.{length, getD, take, drop}
 use Rattle.answer.specs.Outcome.{Outcome, number, First, Sound, instead}
 use Rattle.answer.specs.Table.{table}
@@ -15,10 +17,11 @@ use Rattle.answer.proofs.Promised.{refuses, finishes, first-refused, sound-done
 use Rattle.answer.proofs.Filling.{part, length-part, table-same, length-filled, halfway, front-filled, both-filled}
 use Rattle.words.specs.Digits.{digit}
 use Rattle.words.specs.Word.{ordered, wordAt, plus}
+use Rattle.words.specs.Promises.{served}
 use Rattle.words.proofs.Served.{served-some}
 use Rattle.samples.specs.Sample.{wordOf}
 use Rattle.samples.proofs.Parts.{part-word}
-use Rattle.rows.specs.Resume.{sumsAfter, resumedAt, resumeFaults, RowResumed, RunFits, RanInto, PixelsFit}
+use Rattle.rows.specs.Resume.{sumsAfter, resumedAt, resumeFaults, RowResumed, leading, RunFits, RanInto, PixelsFit}
 use Rattle.rows.proofs.Running.{after-long}
 
 -- the sums go by the words, and go on where they are taken up again
@@ -178,26 +181,49 @@ module _ {raw : List ℕ} {channels width : ℕ} {start old : List ℕ} (fits : 
     pixels = rw (length-part 0 whole raw (omega arith) whole-inside) (ap (λ (n : ℕ). n % (channels * width)) (omega (arith, whole-is, mul-assoc (length raw / (channels * width)) channels width)) ∙ mul-mod-left (length raw / (channels * width)) (channels * width));
   }
 
--- up to the end of a pixel that is begun
-module _ {raw : List ℕ} {first channels width : ℕ} {start old : List ℕ} (fits : RunFits raw first channels width start old) where
+-- no words from any channel
+none-ran : {raw : List ℕ} {first next channels width : ℕ} {le out-le : Bool} {start after new : List ℕ} → length raw ≡ 0 → RanInto raw first channels width le out-le start after new → RanInto raw next channels width le out-le start after new
+none-ran {width = width} e then = record { sums = then .sums ∙ rw (e, zero-div width); wrote = then .wrote ∙ rw e }
+
+-- up to a pixel's start
+pub left-fits : (first channels width : ℕ) → channels ≤ 64 → served width ≡ true → (channels - first) * width ≤ 512
+left-fits first channels width few takes = omega (arith, mul-le-mul less (served-some width takes .1))
+  where
+    less : channels - first ≤ 64
+    less = omega (arith, few)
+
+module _ {raw : List ℕ} {first channels width : ℕ} {start old : List ℕ} (fits : RunFits raw first channels width start old) (lead : ℕ) (is : lead ≡ leading (length raw) first channels width) where
   abbrev left : ℕ
   left = (channels - first) * width
 
-  wide-some : (0 < width) × (width ≤ 8)
-  wide-some = served-some width (fits .takes)
-
-  pub left-fits : left ≤ 512
-  left-fits = omega (arith, mul-le-mul few (wide-some .1))
+  -- nothing stands before it, or all that there is, or the rest of the pixel
+  led : (P : ℕ → Type 0) → (first ≡ 0 → P 0) → P (length raw) → (left ≤ length raw → P left) → P lead
+  led P none short long = rw is (by (decLt 0 first) (decLt (length raw) left))
     where
-      few : channels - first ≤ 64
-      few = omega (arith, fits .held)
+      by : Dec (0 < first) → Dec (length raw < left) → P (leading (length raw) first channels width)
+      by (no g) some = let e : first ≡ 0 = omega arith in rw (eq-eqb first 0 e) (none e)
+      by (yes h) (yes l) = rw (ne-eqb first 0 (λ e. omega arith), lt-ltb (length raw) left l) short
+      by (yes h) (no g) = let l : left ≤ length raw = omega arith in rw (ne-eqb first 0 (λ e. omega arith), le-ltb (length raw) left l) (long l)
 
-  pub left-words : left % width ≡ 0
-  left-words = mul-mod-left (channels - first) width
+  pub lead-inside : lead ≤ length raw
+  lead-inside = led (λ c. c ≤ length raw) (λ e. omega arith) (omega arith) (λ l. l)
 
-  pub left-over : 0 ≡ (first + left / width) % channels
+  pub lead-words : lead % width ≡ 0
+  lead-words = led (λ c. c % width ≡ 0) (λ e. zero-mod width) (fits .words) (λ l. mul-mod-left (channels - first) width)
+
+  left-over : 0 ≡ (first + left / width) % channels
   left-over =
-      let all : first + (channels - first) ≡ channels = omega (arith, fits .here) in sym (rw (mul-div-cancel (channels - first) (wide-some .0), all) (mod-self channels))
+      let all : first + (channels - first) ≡ channels = omega (arith, fits .here) in
+      sym (rw (mul-div-cancel (channels - first) (served-some width (fits .takes) .0), all) (mod-self channels))
+
+  -- so the rest goes on at a pixel's start
+  pub lead-on : {le out-le : Bool} {one two y : List ℕ} → RanInto (part lead (length raw) raw) 0 channels width le out-le one two y → RanInto (part lead (length raw) raw) ((first + lead / width) % channels) channels width le out-le one two y
+  lead-on {le} {out-le} {one} {two} {y} =
+      led
+      (λ c. RanInto (part c (length raw) raw) 0 channels width le out-le one two y → RanInto (part c (length raw) raw) ((first + c / width) % channels) channels width le out-le one two y)
+      (λ e then. let start : (first + 0 / width) % channels ≡ 0 = rw (e, zero-div width) (zero-mod channels) in rw start then)
+      (λ then. none-ran (length-part (length raw) (length raw) raw (omega arith) (omega arith) ∙ omega arith) then)
+      (λ l then. rw (← left-over) then)
 
 -- how the promise is met
 module _ {raw : List ℕ} {first channels width : ℕ} {le out-le : Bool} {start old : List ℕ} where

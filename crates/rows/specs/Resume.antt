@@ -1,12 +1,12 @@
 -- What is promised of a row that is taken up in its middle (rule 16.6): each sample is its word and the sum so far of its channel, whose place
 -- it takes. Assumes nothing.
-use Prim.Native.Nat.{ℕ, zero, suc, _+_, _*_, _/_, _%_, _≤_, _<_}
+use Prim.Native.Nat.{ℕ, zero, suc, _+_, _-_, _*_, _/_, _%_, _≤_, _<_}
 use mathlib.Core.Path.{_≡_}
 use mathlib.Core.Bool.{Bool, true, not}
 use mathlib.Core.List.{List, [], _∷_}
 use lib.Dec.{eqb, ltb}
 use lib.ListN.{length, getD, set}
-use Rattle.answer.specs.Outcome.{Fault, unless, unsupported, invalid, outputTooSmall, instead, Promise, doneOutcome}
+use Rattle.answer.specs.Outcome.{Fault, pick, unless, unsupported, invalid, outputTooSmall, instead, Promise, doneOutcome}
 use Rattle.answer.specs.Table.{table, filled}
 use Rattle.answer.specs.declared.Done.{Done}
 use Rattle.words.specs.Word.{wordAt, plus}
@@ -55,6 +55,10 @@ pub record RunFits (raw : List ℕ) (first channels width : ℕ) (sums out : Lis
 pub record RanInto (raw : List ℕ) (first channels width : ℕ) (le out-le : Bool) (start after new : List ℕ) : Type 0 where
   pub sums : after ≡ sumsAfter first channels width (wordOf width le raw) start (length raw / width)
   pub wrote : new ≡ table (length raw) (resumedAt raw first channels width le out-le start)
+
+-- the bytes of n, the first of them of channel `first`, that stand before a pixel's start
+abbrev pub leading : ℕ → ℕ → ℕ → ℕ → ℕ
+leading n first channels width = let left = (channels - first) * width in pick (eqb first 0) 0 (pick (ltb n left) n left)
 
 -- whole pixels
 pub record PixelsFit (raw : List ℕ) (channels width : ℕ) (sums out : List ℕ) : Type 0 where

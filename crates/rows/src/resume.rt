@@ -3,10 +3,12 @@
 use crate::few;
 use crate::word;
 ghost use mathlib.Core.Path.{_≡_};
-ghost use Prim.Native.Nat.{_+_, _<_};
+ghost use mathlib.Core.Bool.{true};
+ghost use Prim.Native.Nat.{_+_, _≤_, _<_};
 ghost use lib.Dec.{eqb};
 ghost use Rattle.answer.specs.Outcome.{pick};
-ghost use Rattle.rows.specs.Resume.{RunFits, RanInto, PixelsFit, LastFits, Held};
+ghost use Rattle.words.specs.Promises.{served};
+ghost use Rattle.rows.specs.Resume.{leading, RunFits, RanInto, PixelsFit, LastFits, Held};
 
 fn following(channel: usize, channels: usize) -> usize
     requires { ⌜ channel < channels ⌝ }
@@ -124,6 +126,18 @@ fn from_pixel(
     )
 }
 
+// The bytes of so many that stand before a pixel's start.
+fn leading(n: usize, first: usize, channels: usize, width: usize) -> usize
+    requires { ⌜ (first < channels) × ((channels ≤ 64) × (served width ≡ true)) ⌝ }
+    ensures { λ r. ⌜ r ≡ leading n first channels width ⌝ }
+{
+    if first == 0 {
+        return 0;
+    }
+    let begun = (channels - first) * width;
+    if n < begun { n } else { begun }
+}
+
 // Words from any channel on.
 pub(crate) fn run(
     raw: &[u8],
@@ -138,31 +152,25 @@ pub(crate) fn run(
     requires { ⌜ RunFits (now raw) first channels width (now sums) (now out) ⌝ }
     ensures { λ r. ⌜ RanInto (now (raw .entry)) first channels width le «out_le» (now (sums .entry)) (now (sums .exit)) (now (out .exit)) ⌝ }
 {
-    if first == 0 {
-        return from_pixel(raw, channels, width, le, out_le, sums, out);
-    }
     let start: usize = 0;
-    let begun = (channels - first) * width;
-    if raw.len() <= begun {
-        return words(raw, first, channels, width, le, out_le, sums, out);
-    }
+    let lead = leading(raw.len(), first, channels, width);
     words(
-        &raw[start..begun],
+        &raw[start..lead],
         first,
         channels,
         width,
         le,
         out_le,
         sums,
-        &mut out[start..begun],
+        &mut out[start..lead],
     );
     from_pixel(
-        &raw[begun..],
+        &raw[lead..],
         channels,
         width,
         le,
         out_le,
         sums,
-        &mut out[begun..],
+        &mut out[lead..],
     )
 }

@@ -1,40 +1,50 @@
--- `packets::check::sums_right` meets its contract: the answer so far is the test of the sums so far. Assumes nothing.
+-- `packets::check::sums_right` meets its contract: the sums that are there, and then none. Assumes nothing.
 use borrow.Author.Needs.{needs}
 use native.Mathlib.Omega.{arith}
 use mathlib.Core.Path.{_≡_}
 use denote.Ref.{now}
-use Prim.Native.Nat.{_-_, _≤_}
-use Rattle.laws.specs.Turns.{every}
-use Rattle.laws.proofs.Turns.{every-more}
-use Rattle.packets.specs.State.{sumRight}
-use Rattle.packets.proofs.Checking.{sums-all, sum-none}
+use Rattle.packets.proofs.Checking.{sums-all, sums-none}
 use Rattle.packets.proofs.check.sums_right.Statement.{statement}
 use Rattle.packets.proofs.check.sums_right.Tie as tie
 
-abbrev Inv-loop : tie.InvT-loop
-Inv-loop sums width begun right₀ i₀ right i = (begun ≤ i) × ((i ≤ 64) × (right ≡ every i (sumRight sums width begun)))
+returns : tie.Need-returns
+returns c =
+    let from = c .before .before .before .before .before .before .before in
+    let sums = now (from .args .sums) in
+    let width = from .args .width in
+    let begun = from .args .begun in
+    let long = from .pre .1 .0 in
+    sums-all sums width begun {n = 64} (omega arith) (omega arith)
+    (sums-none sums width begun 4 64 (omega arith) (omega arith) (omega (arith, long))
+    (sums-none sums width begun begun 4 (omega arith) (omega arith) (omega (arith, long)) (c .before .before .before .before .before .sums-small .ensures) (c .before .before .none .ensures))
+    (c .none2 .ensures))
 
-abbrev μ-loop : tie.MeasureT-loop
-μ-loop sums width begun right₀ i₀ right i = 64 - i
-
-abbrev start : (c : tie.In-loop Inv-loop μ-loop) → tie.Start Inv-loop μ-loop
-start c = c .before .before .before .before
+returns-2 : tie.Need-returns-2
+returns-2 c =
+    let from = c .before .before .before .before .before in
+    let sums = now (from .args .sums) in
+    let begun = from .args .begun in
+    sums-all sums (from .args .width) begun {n = 64} (omega arith) (omega arith)
+    (sums-none sums (from .args .width) begun begun 64 (omega arith) (from .pre .1 .1) (omega (arith, from .pre .1 .0)) (c .before .before .before .sums-small .ensures) (c .none3 .ensures))
 
 pub sums-right-spec : {M : Type 1} → statement M
 sums-right-spec =
     tie.close
     (tie.spec
-    Inv-loop
-    μ-loop
     (λ c κs. search needs)
-    (λ c. (omega arith, (c .before .before .pre .1 .1, c .sums-small .ensures)))
-    (λ c. omega (arith, c .loop-test .taken))
-    (λ c. let fits = start (c .before) .pre .1 in omega (arith, c .before .loop-test .taken, fits .0))
-    (λ c. omega (arith, c .before .loop-test .taken))
-    (λ c. omega (arith, c .before .loop-test .taken))
-    (λ c.
-    let in-loop = c .before in
-    let at = in-loop .before .loop in
-    let args = start in-loop .args in
-    (omega (arith, at .inv .0), (omega (arith, in-loop .loop-test .taken), every-more (at .i) (sumRight (now (args .sums)) (args .width) (args .begun)) (at .inv .1 .1) (sum-none (now (args .sums)) (args .width) (args .begun) (at .i) (at .inv .0)))))
-    (λ c. sums-all _ _ _ (c .before .loop .inv .1 .0) (c .loop-test .left) (c .before .loop .inv .1 .1)))
+    (λ c. search needs)
+    (λ c. search needs)
+    (λ c. search needs)
+    (λ c κs. search needs)
+    (λ c. search needs)
+    (λ c. search needs)
+    (λ c. search needs)
+    (λ c. search needs)
+    (λ c κs. search needs)
+    (λ c. search needs)
+    (λ c. search needs)
+    (λ c. search needs)
+    (λ c. search needs)
+    (λ c κs. search needs)
+    returns
+    returns-2)
