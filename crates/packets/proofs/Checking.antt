@@ -16,7 +16,9 @@ use Rattle.laws.specs.Turns.{every}
 use Rattle.answer.proofs.Filling.{part, length-part, part-at}
 use Rattle.laws.proofs.Turns.{every-same}
 use Rattle.laws.proofs.Says.{both, up}
-use Rattle.packets.specs.State.{clear, tailRight, sumRight, tailsRight, sumsRight}
+use Rattle.packets.specs.declared.Plan.{Plan}
+use Rattle.packets.specs.State.{clear, tailRight, sumRight, tailsRight, sumsRight, consistent}
+use Rattle.packets.specs.Promises.{plan, state}
 
 pub sound-clear : {fs : List Fault} → Sound fs → clear fs ≡ true
 sound-clear none = refl
@@ -29,6 +31,11 @@ first-clear (later t r) = rw (t, first-clear r)
 pub clear-sound : (fs : List Fault) → clear fs ≡ true → Sound fs
 clear-sound [] e = none
 clear-sound (f ∷ fs) e = let two = both (up (not (f .found))) (up (clear fs)) .tells e in next (not-true (f .found) (two .0)) (clear-sound fs (two .1))
+
+-- the byte orders decide nothing
+pub any-order : (p : Plan) (k : ℕ) (tail sums : List ℕ) → consistent (state (plan (p .«row_bytes») (p .channels) (p .width) true (p .predict) true) k tail sums) ≡ consistent (state p k tail sums)
+unfolding consistent
+any-order p k tail sums = refl
 
 -- a loop that came to its end has tested all
 pub tails-all : (tail : List ℕ) (begun : ℕ) {n : ℕ} {right : Bool} → n ≤ 8 → 8 ≤ n → right ≡ every n (tailRight tail begun) → right ≡ tailsRight tail begun

@@ -1,5 +1,4 @@
 // Whether a start and pieces lead to a state.
-use crate::Plan;
 use crate::feed;
 use answer::Done;
 ghost use mathlib.Core.Path.{_≡_};
@@ -12,7 +11,7 @@ ghost use Rattle.words.specs.Word.{modulus};
 ghost use Rattle.words.specs.Promises.{served};
 ghost use Rattle.laws.specs.Turns.{every};
 ghost use Rattle.packets.specs.State.{sumRight, tailsRight, sumsRight, consistent};
-ghost use Rattle.packets.specs.Promises.{state};
+ghost use Rattle.packets.specs.Promises.{plan, state};
 
 fn byte_right(x: u8, is_live: bool) -> bool
     ensures { λ r. ⌜ r ≡ («is_live» || eqb x 0) ⌝ }
@@ -101,25 +100,30 @@ fn begun_channels(predict: bool, begun: usize, channels: usize) -> usize
     if begun < channels { begun } else { channels }
 }
 
-pub(crate) fn passes(plan: Plan, received: usize, tail: &[u8], sums: &[u64]) -> bool
+// The numbers of a plan come one by one, and so stay in registers. Of the byte orders nothing is asked.
+pub(crate) fn passes(
+    row_bytes: usize,
+    channels: usize,
+    width: usize,
+    predict: bool,
+    received: usize,
+    tail: &[u8],
+    sums: &[u64],
+) -> bool
     requires { ⌜ (length (now tail) ≡ 8) × (length (now sums) ≡ 64) ⌝ }
-    ensures { λ r. ⌜ r ≡ consistent (state plan received (now (tail .entry)) (now (sums .entry))) ⌝ }
+    ensures { λ r. ⌜ r ≡ consistent (state (plan «row_bytes» channels width true predict true) received (now (tail .entry)) (now (sums .entry))) ⌝ }
 {
-    match samples::check_strip(0, plan.row_bytes, plan.channels, plan.width) {
+    match samples::check_strip(0, row_bytes, channels, width) {
         Done::Refused(_) => false,
         Done::Done => {
             if 1073741824 < received {
                 return false;
             }
-            if !tail_right(tail, feed::past(received, plan.width)) {
+            if !tail_right(tail, feed::past(received, width)) {
                 return false;
             }
-            let begun = begun_channels(
-                plan.predict,
-                feed::whole(received % plan.row_bytes, plan.width),
-                plan.channels,
-            );
-            sums_right(sums, plan.width, begun)
+            let begun = begun_channels(predict, feed::whole(received % row_bytes, width), channels);
+            sums_right(sums, width, begun)
         }
     }
 }

@@ -80,7 +80,15 @@ pub fn lent_piece(
     if sums.len() != 64 {
         return Wrote::Refused(Refusal::Invalid);
     }
-    if !check::passes(plan, received, tail, sums) {
+    if !check::passes(
+        plan.row_bytes,
+        plan.channels,
+        plan.width,
+        plan.predict,
+        received,
+        tail,
+        sums,
+    ) {
         return Wrote::Refused(Refusal::Invalid);
     }
     if 1073741824 - received < bytes.len() {
@@ -173,7 +181,15 @@ impl Packets {
         let plan = self.plan;
         let tail = self.tail;
         let sums = self.sums;
-        if !check::passes(plan, self.received, &tail, &sums) {
+        if !check::passes(
+            plan.row_bytes,
+            plan.channels,
+            plan.width,
+            plan.predict,
+            self.received,
+            &tail,
+            &sums,
+        ) {
             return Done::Refused(Refusal::Invalid);
         }
         if self.received % plan.row_bytes != 0 {

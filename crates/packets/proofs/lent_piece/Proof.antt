@@ -12,6 +12,7 @@ use Rattle.answer.specs.Outcome.{done, First, Sound, here, later, next, none}
 use Rattle.packets.specs.declared.Packets.{Packets}
 use Rattle.packets.specs.State.{consistent, most}
 use Rattle.packets.specs.Promises.{state, completes, pieceFaults, lentFaults}
+use Rattle.packets.proofs.Checking.{any-order}
 use Rattle.packets.proofs.Behind.{passed, sane-sound}
 use Rattle.packets.proofs.Cut.{completes-is}
 use Rattle.packets.proofs.Wordstart.{width-served}
@@ -44,8 +45,11 @@ else2 c = c .before .before .before .before
 abbrev start3 : tie.Else3 → tie.Start
 start3 c = start2 (else2 c)
 
+checked : (c : tie.After-passes) → consistent (lent (start2 (c .before .before .before))) ≡ c .passes .result
+checked c = let args = start2 (c .before .before .before) .args in sym (c .passes .ensures ∙ any-order (args .plan) (args .received) (now (args .tail)) (now (args .sums)))
+
 passes : (c : tie.Else3) → consistent (lent (start3 c)) ≡ true
-passes c = sym (c .before .passes .ensures) ∙ not-false (c .before .passes .result) (c .if3 .left)
+passes c = checked (c .before) ∙ not-false (c .before .passes .result) (c .if3 .left)
 
 short : (c : tie.Else3) → start3 c .args .received ≤ most
 short c = passed _ (passes c) .short
@@ -81,7 +85,7 @@ sound c =
 returns-3 : tie.Need-returns-3
 returns-3 c =
     let long = c .before .before .before .before in
-    lent-refused (fault long _ (here (ap not (sym (c .before .passes .ensures) ∙ not-true (c .before .passes .result) (c .if3 .taken))))) refl
+    lent-refused (fault long _ (here (ap not (checked (c .before) ∙ not-true (c .before .passes .result) (c .if3 .taken))))) refl
 
 returns-4 : tie.Need-returns-4
 returns-4 c =

@@ -10,9 +10,10 @@ use Rattle.answer.specs.Outcome.{Sound}
 use Rattle.answer.proofs.Promised.{passed, stopped, sound-here}
 use Rattle.words.specs.Promises.{served}
 use Rattle.samples.specs.Promises.{stripFaults}
+use Rattle.packets.specs.declared.Plan.{Plan}
 use Rattle.packets.specs.declared.Packets.{Packets}
 use Rattle.packets.specs.State.{geometry, most, consistent}
-use Rattle.packets.specs.Promises.{state}
+use Rattle.packets.specs.Promises.{plan, state}
 use Rattle.packets.proofs.Bytewise.{Sane}
 use Rattle.packets.proofs.Behind.{sane-sound, row-place}
 use Rattle.packets.proofs.Checking.{sound-clear, first-clear, begun-few}
@@ -22,8 +23,11 @@ use Rattle.packets.proofs.check.passes.Tie as tie
 abbrev start : tie.After-enum-told2 → tie.Start
 start c = c .before .before .before .before .before
 
+abbrev asked : tie.Start → Plan
+asked c = let args = c .args in plan (args .row-bytes) (args .channels) (args .width) true (args .predict) true
+
 abbrev given : tie.After-enum-told2 → Packets
-given c = let args = start c .args in state (args .plan) (args .received) (now (args .tail)) (now (args .sums))
+given c = let args = start c .args in state (asked (start c)) (args .received) (now (args .tail)) (now (args .sums))
 
 -- the geometry is a start's
 checked : (c : tie.After-enum-told2) → Sound (stripFaults 0 (geometry (given c .plan)))
@@ -51,16 +55,16 @@ returns-3 : tie.Need-returns-3
 unfolding consistent
 returns-3 c =
     let check = c .before .before in
-    let plan = check .before .before .before .args .plan in
+    let p = asked (check .before .before .before) in
     let told = c .enum-told .given in
-    sym (rw (first-clear (stopped (stripFaults 0 (geometry plan)) (check .check-strip .result) (told .0 .0) (check .check-strip .ensures) (told .1))))
+    sym (rw (first-clear (stopped (stripFaults 0 (geometry p)) (check .check-strip .result) (told .0 .0) (check .check-strip .ensures) (told .1))))
 
 returns-4 : tie.Need-returns-4
 unfolding consistent
 returns-4 c =
     let begun = c .before in
     let in-row = begun .before in
-    let else2 = in-row .before .before in
+    let else2 = in-row .before in
     let right = else2 .before in
     let else = right .before .before in
     let is = else .before in
@@ -82,12 +86,12 @@ passes-spec =
     (λ c κs. width-served (c .before))
     (λ c κs. start (c .before .before) .pre .0)
     returns-2
-    (λ c. plan-sane (c .before .before .before .before .before) .good .long)
-    (λ c κs. width-served (c .before .before .before .before .before))
+    (λ c. plan-sane (c .before .before .before .before) .good .long)
+    (λ c κs. width-served (c .before .before .before .before))
     (λ c κs. search needs)
     (λ c κs.
-    let is = c .before .before .before .before .before .before .before in
-    let plan = start is .args .plan in
-    (width-served is, (start is .pre .1, omega (arith, c .begun-channels .ensures, begun-few (plan .predict) (c .before .whole .result) (plan .channels), plan-sane is .few))))
+    let is = c .before .before .before .before .before .before in
+    let args = start is .args in
+    (width-served is, (start is .pre .1, omega (arith, c .begun-channels .ensures, begun-few (args .predict) (c .before .whole .result) (args .channels), plan-sane is .few))))
     returns-3
     returns-4)
