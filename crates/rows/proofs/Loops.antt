@@ -3,7 +3,7 @@ use mathlib.Core.Path.{_≡_, refl, sym, ap, _∙_}
 use mathlib.Core.Bool.{Bool, true, false}
 use mathlib.Core.List.{List, [], _∷_}
 use Prim.Native.Nat.{ℕ, zero, suc, _+_, _-_, _*_, _/_, _%_, _≤_, _<_}
-use native.Mathlib.Nat.{mod-lt, mul-mod-left, add-zero, zero-mod, add-mod-right, add-mul-div-right, mul-div-cancel, div-add-mod', mod-eq-of-lt, mod-add-mod, add-mod-mod, le-div-iff-mul-le, add-mul, one-mul, mul-sub, mul-comm, le-mul-of-pos-right}
+use native.Mathlib.Nat.{mod-lt, mul-mod-left, add-zero, zero-mod, add-mod-right, add-mul-div-right, mul-div-cancel, div-add-mod', mod-eq-of-lt, mod-add-mod, add-mod-mod, le-div-iff-mul-le, add-mul, one-mul, mul-sub, mul-comm, le-mul-of-pos-right, sub-zero}
 use native.Mathlib.Numerals.{add-one}
 use native.Mathlib.Omega.{arith}
 use borrow.Author.Tests.{lt-ltb, le-ltb}
@@ -11,8 +11,9 @@ use lib.Dec.{ltb}
 use native.Mathlib.Decide.{decLt}
 use Rattle.answer.specs.Outcome.{pick}
 use lib.ListN.{length, getD}
+use lib.Seq.{take-length}
 use Rattle.answer.specs.Table.{filled}
-use Rattle.answer.proofs.Filling.{length-stores, stores-filled, filled-front, filled-already, filled-same}
+use Rattle.answer.proofs.Filling.{part, length-stores, stores-filled, filled-front, filled-already, filled-same}
 use Rattle.words.specs.Digits.{digit}
 use Rattle.words.specs.Word.{ordered, wordAt, Put, modulus, plus, minus}
 use Rattle.words.proofs.Words.{digits-word}
@@ -21,7 +22,7 @@ use Rattle.samples.specs.Sample.{Strip, alone, wordOf, sample, difference, stor
 use Rattle.samples.proofs.Sums.{sample-alone, sample-later, difference-later}
 use Rattle.samples.proofs.Stored.{stored-byte}
 use Rattle.samples.proofs.Undo.{sample-below}
-use Rattle.rows.specs.Row.{oneRow, RowFits, HeldFits, FewFit, Led, meantAt, resumed, ResumedInto}
+use Rattle.rows.specs.Row.{oneRow, RowFits, HeldFits, FewFit, Led, meantAt, resumedIn, resumed, ResumedInto}
 use Rattle.laws.proofs.Lists.{nothing, zeros}
 
 -- the buffer holds the words v, stored, up to `at`, of n bytes in all
@@ -101,16 +102,20 @@ carried-on raw channels width le start n some h = by (decLt n channels)
         rw (le-ltb n channels deep, same, sample-later g true le raw n some (later raw channels width n h deep))
         (mod-add-mod (w + s) (modulus width) t ∙ ap (λ (x : ℕ). x % modulus width) together ∙ sym (add-mod-mod w (s + t) (modulus width)))
 
--- a row that starts from nothing is the row
-pub resumed-none : (raw : List ℕ) (channels width : ℕ) (le out-le : Bool) (old : List ℕ) (n : ℕ) → 0 < channels → filled (length raw) (storedAt width out-le (resumed raw channels width le (nothing n))) old ≡ filled (length raw) (meantAt raw channels width le out-le false) old
-resumed-none raw channels width le out-le old n some =
+-- rows that start from nothing are the strip's
+pub resumed-none : (raw : List ℕ) (g : Strip) (le out-le : Bool) (old : List ℕ) (n : ℕ) → 0 < g .channels → filled (length raw) (storedAt (g .width) out-le (resumedIn g raw le (nothing n))) old ≡ filled (length raw) (storedAt (g .width) out-le (sample g true le raw)) old
+resumed-none raw g le out-le old n some =
     filled-same (length raw) _ _ old (λ k h.
-    ap (digit 256 (ordered out-le width (k % width)))
-    (rw (zeros n (k / width % channels), add-zero) (mod-eq-of-lt (sample-below (oneRow raw channels width) true le raw some (k / width)))))
+    ap (digit 256 (ordered out-le (g .width) (k % g .width)))
+    (rw (zeros n (k / g .width % g .channels), add-zero) (mod-eq-of-lt (sample-below g true le raw some (k / g .width)))))
+
+-- a row that is lent anew is the row
+pub all-of : (l : List ℕ) → part 0 (length l) l ≡ l
+all-of l = rw (sub-zero (length l)) (take-length l)
 
 -- a row of at most four channels fits the loop of so many
-pub few-fits : {raw : List ℕ} {channels width : ℕ} {start old : List ℕ} {n : ℕ} → FewFit raw channels width start old → channels ≡ n → HeldFits raw n width start old
-few-fits row e = rw e at (row .row)
+pub few-fits : {raw : List ℕ} {channels width : ℕ} {start old : List ℕ} {n : ℕ} → FewFit raw channels width start old → channels ≡ n → HeldFits (part 0 (length raw) raw) n width start old
+few-fits {raw} row e = rw (all-of raw) (rw e at (row .row))
 
 -- its sums as four numbers
 abbrev pub fourOf : List ℕ → List ℕ

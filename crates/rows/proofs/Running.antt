@@ -22,10 +22,11 @@ use Rattle.laws.proofs.Groups.{turned, apart, group-room}
 use Rattle.laws.proofs.Lists.{filled-one}
 use Rattle.samples.specs.Sample.{wordOf}
 use Rattle.samples.proofs.Stored.{stored-word}
-use Rattle.rows.specs.Row.{RowFits, FewFit, resumed, ResumedInto}
+use Rattle.rows.specs.Row.{oneRow, RowFits, FewRows, resumed, ResumedInto}
 use Rattle.rows.specs.Resume.{sumsAfter, sampleAfter, resumedAt, RunFits, RanInto, PixelsFit, LastFits, Held}
 use Rattle.rows.proofs.Loops.{Upto, upto-none, back-at, turn-room, ended, carried, carried-first, carried-later, carried-on}
 use Rattle.rows.proofs.Loops as L
+use Rattle.rows.proofs.Rows.{one-good}
 
 pub after-long : (first channels width : ℕ) (w : ℕ → ℕ) (start : List ℕ) (n : ℕ) → length (sumsAfter first channels width w start n) ≡ length start
 after-long first channels width w start zero = refl
@@ -174,8 +175,8 @@ module _ {raw : List ℕ} {channels width : ℕ} {start old : List ℕ} (fit : P
   row-fits : RowFits raw channels width old
   row-fits = record { channel = run .here; wide = wide; groups = fit .pixels; room = omega (arith, run .same) }
 
-  pub few-fit : channels ≤ 4 → FewFit raw channels width start old
-  few-fit h = record { row = record { takes = run .takes; fits = row-fits; held = sums-held }; few = h; four = omega (arith, run .long) }
+  pub few-rows : channels ≤ 4 → 0 < length raw → FewRows raw (oneRow raw channels width) start old
+  few-rows h some = record { takes = run .takes; good = one-good row-fits some; few = h; four = omega (arith, run .long); room = omega (arith, run .same) }
 
   pub none-ran : (le out-le : Bool) → length raw ≡ 0 → RanInto raw 0 channels width le out-le start start old
   none-ran le out-le e = record { sums = rw (e, zero-div width); wrote = empty old (run .same ∙ e) ∙ rw e }

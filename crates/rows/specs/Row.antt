@@ -9,7 +9,7 @@ use lib.ListN.{length, take, getD}
 use Rattle.answer.specs.Outcome.{unless, outputTooSmall, pick, Promise, doneOutcome, Sound}
 use Rattle.answer.specs.Table.{table, filled}
 use Rattle.answer.specs.declared.Done.{Done}
-use Rattle.samples.specs.Sample.{wordOf, Strip, strip, sample, difference, storedAt}
+use Rattle.samples.specs.Sample.{wordOf, Strip, strip, Good, sample, difference, storedAt}
 use Rattle.words.specs.Word.{plus}
 use Rattle.words.specs.Promises.{served}
 use Rattle.samples.specs.Promises.{stripFaults, convertFaults}
@@ -52,12 +52,19 @@ pub record RowFits (raw : List ℕ) (channels width : ℕ) (out : List ℕ) : Ty
 abbrev pub meantAt : List ℕ → ℕ → ℕ → Bool → Bool → Bool → ℕ → ℕ
 meantAt raw channels width le out-le forward = storedAt width out-le (meant forward (oneRow raw channels width) true le raw)
 
--- sample n of a row that is taken up in its middle: that of the bytes from there on alone, and the sum so far of its channel
+-- sample n of a strip each of whose rows is taken up in its middle: that of the bytes from there on alone, and the sum so far of its channel
+abbrev pub resumedIn : Strip → List ℕ → Bool → List ℕ → ℕ → ℕ
+resumedIn g raw le start n = plus (g .width) (sample g true le raw n) (getD start (n % g .channels) 0)
+
+abbrev pub ResumedRows : List ℕ → Strip → Bool → Bool → List ℕ → List ℕ → List ℕ → Type 0
+ResumedRows raw g le out-le start old new = new ≡ filled (length raw) (storedAt (g .width) out-le (resumedIn g raw le start)) old
+
+-- of one row
 abbrev pub resumed : List ℕ → ℕ → ℕ → Bool → List ℕ → ℕ → ℕ
-resumed raw channels width le start n = plus width (sample (oneRow raw channels width) true le raw n) (getD start (n % channels) 0)
+resumed raw channels width = resumedIn (oneRow raw channels width) raw
 
 abbrev pub ResumedInto : List ℕ → ℕ → ℕ → Bool → Bool → List ℕ → List ℕ → List ℕ → Type 0
-ResumedInto raw channels width le out-le start old new = new ≡ filled (length raw) (storedAt width out-le (resumed raw channels width le start)) old
+ResumedInto raw channels width = ResumedRows raw (oneRow raw channels width)
 
 -- a row whose first `channels` words are written already
 pub record Led (f : ℕ → ℕ) (raw : List ℕ) (channels width : ℕ) (out : List ℕ) : Type 0 where
@@ -76,6 +83,14 @@ pub record FewFit (raw : List ℕ) (channels width : ℕ) (start out : List ℕ)
   pub row : HeldFits raw channels width start out
   pub few : channels ≤ 4
   pub four : 4 ≤ length start
+
+-- rows of a strip that has at most four channels
+pub record FewRows (raw : List ℕ) (g : Strip) (start out : List ℕ) : Type 0 where
+  pub takes : served (g .width) ≡ true
+  pub good : Good (length raw) g
+  pub few : g .channels ≤ 4
+  pub four : 4 ≤ length start
+  pub room : length raw ≤ length out
 
 -- what is known of a row past every refusal
 pub record RowServed (raw : List ℕ) (channels width : ℕ) (out : List ℕ) : Type 0 where

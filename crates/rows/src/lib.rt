@@ -49,7 +49,7 @@ fn transform_words(
             steps::steps(raw, channels, width, le, out_le, forward, out)
         } else {
             let none = [0u64; 4];
-            few::few(raw, channels, width, le, out_le, &none, out)
+            few::rows(raw, raw.len(), channels, width, le, out_le, &none, out)
         }
     } else {
         samples::reorder(raw, width, le, out_le, out);
@@ -78,6 +78,27 @@ fn predicted_rows(
         transform_words(row, channels, width, le, true, out_le, forward, to);
         at = end;
     }
+}
+
+// Those of at most four channels, with prediction undone, in the loop over their own.
+fn every_row(
+    raw: &[u8],
+    row_bytes: usize,
+    channels: usize,
+    width: usize,
+    le: bool,
+    out_le: bool,
+    forward: bool,
+    out: &mut [u8],
+)
+    requires { ⌜ StripServed (now raw) (strip «row_bytes» channels width) (now out) ⌝ }
+    ensures { λ r. ⌜ TransformedInto (now (raw .entry)) (strip «row_bytes» channels width) true le «out_le» forward (now (out .entry)) (now (out .exit)) ⌝ }
+{
+    if forward | (4 < channels) {
+        return predicted_rows(raw, row_bytes, channels, width, le, out_le, forward, out);
+    }
+    let none = [0u64; 4];
+    few::rows(raw, row_bytes, channels, width, le, out_le, &none, out)
 }
 
 // The strip check, then the room.
@@ -113,7 +134,7 @@ pub fn transform_rows(
         Done::Refused(k) => Done::Refused(k),
         Done::Done => {
             if predict {
-                predicted_rows(raw, row_bytes, channels, width, le, out_le, forward, out);
+                every_row(raw, row_bytes, channels, width, le, out_le, forward, out);
             } else {
                 samples::reorder(raw, width, le, out_le, out);
             }

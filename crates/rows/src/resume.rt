@@ -79,7 +79,7 @@ fn pixels(
     if 4 < channels {
         return words(raw, 0, channels, width, le, out_le, sums, out);
     }
-    few::few(raw, channels, width, le, out_le, sums, out);
+    few::rows(raw, raw.len(), channels, width, le, out_le, sums, out);
     held(
         out,
         raw.len() - channels * width,

@@ -1,5 +1,5 @@
 -- Words of a part of a strip are the strip's words there; a part that is whole rows has the strip's samples there. Assumes nothing.
-use mathlib.Core.Path.{_≡_, sym, ap, _∙_}
+use mathlib.Core.Path.{_≡_, sym, ap, ap₂, _∙_}
 use mathlib.Core.Bool.{Bool}
 use mathlib.Core.List.{List}
 use Prim.Native.Nat.{ℕ, suc, _+_, _-_, _*_, _/_, _%_, _≤_, _<_}
@@ -52,9 +52,27 @@ module _ (raw : List ℕ) (g : Strip) (good : Good (length raw) g) (le out-le : 
       let from : at + k ≡ k + at / g .width * g .width = omega (arith, begins) in
       rw (from, add-mul-mod-self-right k (at / g .width) (g .width), add-mul-div-right k (at / g .width) (good .wide), add-comm (k / g .width) (at / g .width), agree (k / g .width) inside, zero-add (k / g .width))
 
+  -- its samples are of the channels that the strip's are of
+  same-channel : (m : ℕ) → (at / g .width + m) % g .channels ≡ (0 + m) % g .channels
+  same-channel m =
+      let row : g .row / (g .channels * g .width) * g .channels * g .width ≡ g .row = mul-assoc (g .row / (g .channels * g .width)) (g .channels) (g .width) ∙ omega (arith, div-add-mod' (g .row) (g .channels * g .width), good .rows) in
+      let rows : at / g .row * (g .row / (g .channels * g .width)) * g .channels * g .width ≡ at =
+      ap (λ (x : ℕ). x * g .width) (mul-assoc (at / g .row) (g .row / (g .channels * g .width)) (g .channels))
+      ∙ mul-assoc (at / g .row) (g .row / (g .channels * g .width) * g .channels) (g .width)
+      ∙ ap (λ (x : ℕ). at / g .row * x) row
+      ∙ omega (arith, div-add-mod' at (g .row), ha) in
+      let whole : at / g .width ≡ at / g .row * (g .row / (g .channels * g .width)) * g .channels = ap (λ (x : ℕ). x / g .width) (sym rows) ∙ mul-div-cancel (at / g .row * (g .row / (g .channels * g .width)) * g .channels) (good .wide) in
+      rw (whole, add-comm (at / g .row * (g .row / (g .channels * g .width)) * g .channels) m, add-mul-mod-self-right m (at / g .row * (g .row / (g .channels * g .width))) (g .channels), zero-add m)
+
+  -- so what is made of each sample and its channel is what is made of the strip's
+  pub part-made : (f : ℕ → ℕ → ℕ) (predict : Bool) (k : ℕ) → k < g .row → storedAt (g .width) out-le (λ n. f (sample (strip (length rowPart) (g .channels) (g .width)) predict le rowPart n) (n % g .channels)) k ≡ storedAt (g .width) out-le (λ n. f (sample g predict le raw n) (n % g .channels)) (at + k)
+  part-made f predict k h =
+      rw row-long
+      (placed (λ n. f (sample g predict le raw n) (n % g .channels)) (λ n. f (sample g predict le rowPart n) (n % g .channels))
+      (λ m l. ap₂ f (same-samples g (good .channel) predict le raw rowPart (at / g .width) 0 row-begins (zero-mod (g .row / g .width)) words-agree m l) (same-channel m)) k h)
+
   pub part-samples : (predict : Bool) (k : ℕ) → k < g .row → storedAt (g .width) out-le (sample (strip (length rowPart) (g .channels) (g .width)) predict le rowPart) k ≡ storedAt (g .width) out-le (sample g predict le raw) (at + k)
-  part-samples predict k h =
-      rw row-long (placed (sample g predict le raw) (sample g predict le rowPart) (same-samples g (good .channel) predict le raw rowPart (at / g .width) 0 row-begins (zero-mod (g .row / g .width)) words-agree) k h)
+  part-samples = part-made (λ x channel. x)
 
   pub part-differences : (predict : Bool) (k : ℕ) → k < g .row → storedAt (g .width) out-le (difference (strip (length rowPart) (g .channels) (g .width)) predict le rowPart) k ≡ storedAt (g .width) out-le (difference g predict le raw) (at + k)
   part-differences predict k h =

@@ -49,7 +49,7 @@ transform-rows-spec =
     let arm = gone .before .before in
     let told = arm .before in
     let args = start (told .before .before) .args in
-    rw (arm .if1 .taken) (finishes (faults (told .before .before)) tt (length (now (args .raw))) _ _ _ (sound told) (gone .predicted-rows .ensures)))
+    rw (arm .if1 .taken) (finishes (faults (told .before .before)) tt (length (now (args .raw))) _ _ _ (sound told) (gone .every-row .ensures)))
     (λ c. search needs)
     (λ c.
     let gone = c .before .before in

@@ -1,6 +1,7 @@
 -- `rows::transform_words` meets its contract: words in the other order without prediction, else the row predicted or undone.
 -- Assumes nothing.
 use borrow.Author.Needs.{needs}
+use native.Mathlib.Nat.{mul-pos}
 use native.Mathlib.Omega.{arith}
 use mathlib.Core.Path.{_≡_, refl, _∙_}
 use mathlib.Core.Bool.{false}
@@ -13,6 +14,7 @@ use Rattle.laws.proofs.Groups.{groups-words}
 use Rattle.laws.proofs.Says.{neither}
 use Rattle.rows.specs.Row.{oneRow}
 use Rattle.rows.proofs.Loops.{resumed-none}
+use Rattle.rows.proofs.Rows.{one-good}
 use Rattle.rows.proofs.Leading.{lead-fits, lead-on, lead-all, unpredicted}
 use Rattle.rows.proofs.transform_words.Statement.{statement}
 use Rattle.rows.proofs.transform_words.Tie as tie
@@ -43,7 +45,7 @@ transform-words-spec =
     let arm = c .before .before in
     let pre = arm .before .before .before .before .pre in
     let most = at-most-four arm .1 in
-    record { row = record { takes = pre .takes; fits = pre .fits; held = most }; few = most; four = omega arith })
+    record { takes = pre .takes; good = one-good (pre .fits) (omega (arith, pre .step, mul-pos (pre .fits .channel) (pre .fits .wide))); few = most; four = omega arith; room = pre .fits .room })
     (λ c κs. search needs) (λ c. search needs)
     (λ c.
     let gone = c .before .before in
@@ -57,7 +59,7 @@ transform-words-spec =
     let arm = summed .before .before .before in
     let start = arm .before .before .before .before in
     let args = start .args in
-    rw (arm .before .if1 .taken, at-most-four arm .0) (summed .few .ensures ∙ resumed-none (now (args .raw)) (args .channels) (args .width) (args .le) (args .out-le) (now (args .out)) 4 (start .pre .fits .channel)))
+    rw (arm .before .if1 .taken, at-most-four arm .0) (summed .rows .ensures ∙ resumed-none (now (args .raw)) (oneRow (now (args .raw)) (args .channels) (args .width)) (args .le) (args .out-le) (now (args .out)) 4 (start .pre .fits .channel)))
     (λ c. search needs)
     (λ c.
     let gone = c .before .before in
