@@ -22,7 +22,7 @@ use Rattle.samples.specs.Sample.{Strip, alone, wordOf, sample, difference, stor
 use Rattle.samples.proofs.Sums.{sample-alone, sample-later, difference-later}
 use Rattle.samples.proofs.Stored.{stored-byte}
 use Rattle.samples.proofs.Undo.{sample-below}
-use Rattle.rows.specs.Row.{oneRow, RowFits, HeldFits, FewFit, Led, meantAt, resumedIn, resumed, ResumedInto}
+use Rattle.rows.specs.Row.{oneRow, RowFits, HeldFits, FewFit, Led, resumedIn, resumed, ResumedInto}
 use Rattle.laws.proofs.Lists.{nothing, zeros}
 
 -- the buffer holds the words v, stored, up to `at`, of n bytes in all

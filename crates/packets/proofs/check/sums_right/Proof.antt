@@ -1,7 +1,6 @@
 -- `packets::check::sums_right` meets its contract: the sums that are there, and then none. Assumes nothing.
 use borrow.Author.Needs.{needs}
 use native.Mathlib.Omega.{arith}
-use mathlib.Core.Path.{_≡_}
 use denote.Ref.{now}
 use Rattle.packets.proofs.Checking.{sums-all, sums-none}
 use Rattle.packets.proofs.check.sums_right.Statement.{statement}
