@@ -7,32 +7,19 @@ use native.Mathlib.Decide.{decLt}
 use native.Mathlib.Omega.{arith}
 use borrow.Author.Tests.{eq-eqb, ne-eqb}
 use lib.ListN.{length, take, drop}
-use Rattle.answer.proofs.Filling.{part, length-part, length-stores, length-filled, halfway}
+use Rattle.answer.proofs.Filling.{part, length-part, length-stores, halfway}
 use Rattle.packets.specs.declared.Plan.{Plan}
-use Rattle.packets.specs.State.{behind}
 use Rattle.packets.specs.Promises.{noTail, completes, state}
 use Rattle.packets.specs.Steps.{BytesFeed, BytesFed, WordsFeed, WordsFed, OneWord, FromWord, missing, Finishes, HoldFits, Held}
 use Rattle.packets.proofs.Bytewise.{Sane}
-use Rattle.packets.proofs.Behind.{Shaped}
-use Rattle.packets.proofs.Reaches.{shaped-at}
 use Rattle.packets.proofs.Joins.{front-feeds, back-feeds, same-out, both-feds}
 use Rattle.packets.proofs.Cut.{completes-end}
 use Rattle.packets.proofs.Parts.{head-room}
 use Rattle.packets.proofs.Tails.{plan-sane, fill-less, hold-fed, word-feeds, finish-fed}
 
--- what is lent stays as long as it is
-module _ {p : Plan} {k : ℕ} {bytes tail sums old : List ℕ} (feed : BytesFeed p k bytes tail sums old) {tail′ sums′ new : List ℕ} (fed : BytesFed p k bytes tail sums old tail′ sums′ new) where
-  shaped : Shaped (state p (k + length bytes) tail′ sums′)
-  shaped = subst Shaped (sym (fed .state-is)) (shaped-at p (behind (state p k tail sums) ++ bytes) (k + length bytes))
-
-  pub tail-stays : length tail′ ≡ length tail
-  tail-stays = shaped .tails ∙ sym (feed .tails)
-
-  pub sums-stay : length sums′ ≡ length sums
-  sums-stay = shaped .sums ∙ sym (feed .sums)
-
-  pub out-stays : length new ≡ length old
-  out-stays = ap length (fed .wrote) ∙ length-filled (completes (state p k tail sums) (length bytes)) _ old (feed .room)
+-- of an unfinished word some bytes are missing
+pub fill-inside : {p : Plan} {k : ℕ} {bytes tail sums old : List ℕ} → BytesFeed p k bytes tail sums old → (fill : ℕ) → fill ≡ k % p .width → fill < p .width
+fill-inside feed fill is = rw is (fill-less feed)
 
 -- the bytes that a word lacks, if it is begun
 missing-none : (fill width : ℕ) → fill ≡ 0 → missing fill width ≡ 0
@@ -46,9 +33,6 @@ module _ {p : Plan} {k fill : ℕ} {bytes tail sums old : List ℕ} (from : Fini
   cut-sane : Sane p
   cut-sane = plan-sane (from .feeds)
 
-  fill-some : fill < p .width
-  fill-some = rw (from .cut) (fill-less (from .feeds))
-
   -- nothing was cut
   pub uncut-fed : fill ≡ 0 → BytesFed p k bytes tail sums old tail sums old
   uncut-fed e =
@@ -58,7 +42,7 @@ module _ {p : Plan} {k fill : ℕ} {bytes tail sums old : List ℕ} (from : Fini
   -- the word is finished
   module _ (some : 0 < fill) where
     end : k % p .width + length bytes ≡ p .width
-    end = omega (arith, from .ends, missing-some fill (p .width) some, from .cut, fill-some)
+    end = omega (arith, from .ends, missing-some fill (p .width) some, from .cut, fill-inside (from .feeds) fill (from .cut))
 
     pub cut-fits : HoldFits bytes fill tail
     cut-fits = record { room = omega (arith, end, from .cut, cut-sane .narrow, from .feeds .tails) }
@@ -90,8 +74,8 @@ module _ {p : Plan} {k : ℕ} {bytes tail sums old : List ℕ} (feed : BytesFeed
   sane : Sane p
   sane = plan-sane feed
 
-  pub fill-inside : fill < p .width
-  fill-inside = rw is (fill-less feed)
+  inside : fill < p .width
+  inside = fill-inside feed fill is
 
   module _ (head : ℕ) (lacks : head ≡ missing fill (p .width)) where
     head-less : head ≤ p .width - fill
@@ -102,14 +86,14 @@ module _ {p : Plan} {k : ℕ} {bytes tail sums old : List ℕ} (feed : BytesFeed
         by (no g) = omega (arith, lacks, missing-none fill (p .width) (omega arith))
 
     pub done-small : fill + head ≤ 8
-    done-small = omega (arith, head-less, fill-inside, sane .narrow)
+    done-small = omega (arith, head-less, inside, sane .narrow)
 
     -- too few bytes to finish the word
     pub hold-fits : length bytes < head → HoldFits bytes fill tail
-    hold-fits h = record { room = omega (arith, head-less, fill-inside, sane .narrow, feed .tails) }
+    hold-fits h = record { room = omega (arith, head-less, inside, sane .narrow, feed .tails) }
 
     pub short-fed : length bytes < head → {tail′ : List ℕ} → Held bytes fill tail tail′ → BytesFed p k bytes tail sums old tail′ sums old
-    short-fed h {tail′} e = hold-fed feed (omega (arith, head-less, fill-inside, is)) (subst (λ (f : ℕ). Held bytes f tail tail′) is e)
+    short-fed h {tail′} e = hold-fed feed (omega (arith, head-less, inside, is)) (subst (λ (f : ℕ). Held bytes f tail tail′) is e)
 
     -- enough of them: so many bytes of a word are finished
     module _ (enough : head ≤ length bytes) where
@@ -121,7 +105,7 @@ module _ {p : Plan} {k : ℕ} {bytes tail sums old : List ℕ} (feed : BytesFeed
         where
           by : Dec (0 < fill) → (k + head) % p .width ≡ 0
           by (yes h) =
-              let next : k + head ≡ (k / p .width + 1) * p .width = omega (arith, lacks, missing-some fill (p .width) h, is, fill-inside, div-add-mod' k (p .width), add-mul (k / p .width) 1 (p .width), one-mul (p .width)) in
+              let next : k + head ≡ (k / p .width + 1) * p .width = omega (arith, lacks, missing-some fill (p .width) h, is, inside, div-add-mod' k (p .width), add-mul (k / p .width) 1 (p .width), one-mul (p .width)) in
               rw next (mul-mod-left (k / p .width + 1) (p .width))
           by (no g) = let here : k + head ≡ k = omega (arith, lacks, missing-none fill (p .width) (omega arith)) in rw here (omega (arith, is))
 

@@ -181,9 +181,9 @@ module _ {raw : List ℕ} {channels width : ℕ} {start old : List ℕ} (fits : 
     pixels = rw (length-part 0 whole raw (omega arith) whole-inside) (ap (λ (n : ℕ). n % (channels * width)) (omega (arith, whole-is, mul-assoc (length raw / (channels * width)) channels width)) ∙ mul-mod-left (length raw / (channels * width)) (channels * width));
   }
 
--- no words from any channel
-none-ran : {raw : List ℕ} {first next channels width : ℕ} {le out-le : Bool} {start after new : List ℕ} → length raw ≡ 0 → RanInto raw first channels width le out-le start after new → RanInto raw next channels width le out-le start after new
-none-ran {width = width} e then = record { sums = then .sums ∙ rw (e, zero-div width); wrote = then .wrote ∙ rw e }
+-- no words are the same from any channel
+any-channel : {raw : List ℕ} {first next channels width : ℕ} {le out-le : Bool} {start after new : List ℕ} → length raw ≡ 0 → RanInto raw first channels width le out-le start after new → RanInto raw next channels width le out-le start after new
+any-channel {width = width} e then = record { sums = then .sums ∙ rw (e, zero-div width); wrote = then .wrote ∙ rw e }
 
 -- up to a pixel's start
 pub left-fits : (first channels width : ℕ) → channels ≤ 64 → served width ≡ true → (channels - first) * width ≤ 512
@@ -222,7 +222,7 @@ module _ {raw : List ℕ} {first channels width : ℕ} {start old : List ℕ} (f
       led
       (λ c. RanInto (part c (length raw) raw) 0 channels width le out-le one two y → RanInto (part c (length raw) raw) ((first + c / width) % channels) channels width le out-le one two y)
       (λ e then. let start : (first + 0 / width) % channels ≡ 0 = rw (e, zero-div width) (zero-mod channels) in rw start then)
-      (λ then. none-ran (length-part (length raw) (length raw) raw (omega arith) (omega arith) ∙ omega arith) then)
+      (λ then. any-channel (length-part (length raw) (length raw) raw (omega arith) (omega arith) ∙ omega arith) then)
       (λ l then. rw (← left-over) then)
 
 -- how the promise is met
