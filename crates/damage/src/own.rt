@@ -16,6 +16,13 @@ fn word2(damage: &[u8], at: usize) -> u16
     words::join2(damage[at + 0], damage[at + 1])
 }
 
+fn word3(damage: &[u8], at: usize) -> u32
+    requires { ⌜ at + 3 ≤ length (now damage) ⌝ }
+    ensures { λ r. ⌜ r ≡ wordAt (now (damage .entry)) at 3 true ⌝ }
+{
+    words::join3(damage[at + 0], damage[at + 1], damage[at + 2])
+}
+
 fn word4(damage: &[u8], at: usize) -> u32
     requires { ⌜ at + 4 ≤ length (now damage) ⌝ }
     ensures { λ r. ⌜ r ≡ wordAt (now (damage .entry)) at 4 true ⌝ }
@@ -38,6 +45,8 @@ fn struck(damage: &[u8], at: usize, width: usize) -> bool
         damage[at] != 0
     } else if width == 2 {
         word2(damage, at) != 0
+    } else if width == 3 {
+        word3(damage, at) != 0
     } else if width == 4 {
         word4(damage, at) != 0
     } else {
@@ -74,6 +83,8 @@ pub(crate) fn own(damage: &[u8], width: usize, marks: &mut [u8])
     if width == 1 {
         own_of(damage, width, marks)
     } else if width == 2 {
+        own_of(damage, width, marks)
+    } else if width == 3 {
         own_of(damage, width, marks)
     } else if width == 4 {
         own_of(damage, width, marks)

@@ -41,6 +41,8 @@ fn greatest(width: usize) -> u64
         255
     } else if width == 2 {
         65535
+    } else if width == 3 {
+        16777215
     } else if width == 4 {
         4294967295
     } else {

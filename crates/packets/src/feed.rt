@@ -15,6 +15,8 @@ pub(crate) fn whole(n: usize, width: usize) -> usize
         n
     } else if width == 2 {
         n / 2
+    } else if width == 3 {
+        n / 3
     } else if width == 4 {
         n / 4
     } else {
@@ -30,6 +32,8 @@ pub(crate) fn past(n: usize, width: usize) -> usize
         0
     } else if width == 2 {
         n % 2
+    } else if width == 3 {
+        n % 3
     } else if width == 4 {
         n % 4
     } else {

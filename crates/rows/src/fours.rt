@@ -34,7 +34,21 @@ pub(crate) fn alike(raw: &[u8], width: usize, le: bool, start: &[u64], out: &mut
     requires { ⌜ HeldFits (now raw) 4 width (now start) (now out) ⌝ }
     ensures { λ r. ⌜ ResumedInto (now (raw .entry)) 4 width le le (now (start .entry)) (now (out .entry)) (now (out .exit)) ⌝ }
 {
-    if width == 1 {
+    if 3 < width {
+        if width == 8 {
+            match le {
+                true => fours_of(raw, width, le, le, start, out),
+                false => fours_of(raw, width, le, le, start, out),
+            }
+        } else if width == 4 {
+            match le {
+                true => fours_of(raw, width, le, le, start, out),
+                false => fours_of(raw, width, le, le, start, out),
+            }
+        } else {
+            fours_of(raw, width, le, le, start, out)
+        }
+    } else if width == 3 {
         match le {
             true => fours_of(raw, width, le, le, start, out),
             false => fours_of(raw, width, le, le, start, out),
@@ -44,16 +58,8 @@ pub(crate) fn alike(raw: &[u8], width: usize, le: bool, start: &[u64], out: &mut
             true => fours_of(raw, width, le, le, start, out),
             false => fours_of(raw, width, le, le, start, out),
         }
-    } else if width == 4 {
-        match le {
-            true => fours_of(raw, width, le, le, start, out),
-            false => fours_of(raw, width, le, le, start, out),
-        }
-    } else if width == 8 {
-        match le {
-            true => fours_of(raw, width, le, le, start, out),
-            false => fours_of(raw, width, le, le, start, out),
-        }
+    } else if width == 1 {
+        fours_of(raw, width, le, le, start, out)
     } else {
         fours_of(raw, width, le, le, start, out)
     }
@@ -64,7 +70,21 @@ pub(crate) fn turned(raw: &[u8], width: usize, le: bool, start: &[u64], out: &mu
     requires { ⌜ HeldFits (now raw) 4 width (now start) (now out) ⌝ }
     ensures { λ r. ⌜ ResumedInto (now (raw .entry)) 4 width le (not le) (now (start .entry)) (now (out .entry)) (now (out .exit)) ⌝ }
 {
-    if width == 1 {
+    if 3 < width {
+        if width == 8 {
+            match le {
+                true => fours_of(raw, width, le, !le, start, out),
+                false => fours_of(raw, width, le, !le, start, out),
+            }
+        } else if width == 4 {
+            match le {
+                true => fours_of(raw, width, le, !le, start, out),
+                false => fours_of(raw, width, le, !le, start, out),
+            }
+        } else {
+            fours_of(raw, width, le, !le, start, out)
+        }
+    } else if width == 3 {
         match le {
             true => fours_of(raw, width, le, !le, start, out),
             false => fours_of(raw, width, le, !le, start, out),
@@ -74,16 +94,8 @@ pub(crate) fn turned(raw: &[u8], width: usize, le: bool, start: &[u64], out: &mu
             true => fours_of(raw, width, le, !le, start, out),
             false => fours_of(raw, width, le, !le, start, out),
         }
-    } else if width == 4 {
-        match le {
-            true => fours_of(raw, width, le, !le, start, out),
-            false => fours_of(raw, width, le, !le, start, out),
-        }
-    } else if width == 8 {
-        match le {
-            true => fours_of(raw, width, le, !le, start, out),
-            false => fours_of(raw, width, le, !le, start, out),
-        }
+    } else if width == 1 {
+        fours_of(raw, width, le, !le, start, out)
     } else {
         fours_of(raw, width, le, !le, start, out)
     }

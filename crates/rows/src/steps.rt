@@ -38,8 +38,43 @@ pub(crate) fn steps(
     requires { ⌜ (served width ≡ true) × Led (meantAt (now raw) channels width le «out_le» forward) (now raw) channels width (now out) ⌝ }
     ensures { λ r. ⌜ TransformedInto (now (raw .entry)) (oneRow (now (raw .entry)) channels width) true le «out_le» forward (now (out .entry)) (now (out .exit)) ⌝ }
 {
-    if width == 1 {
-        steps_of(raw, channels, width, le, out_le, forward, out)
+    if 3 < width {
+        if width == 8 {
+            match le {
+                true => match out_le {
+                    true => steps_of(raw, channels, width, le, out_le, forward, out),
+                    false => steps_of(raw, channels, width, le, out_le, forward, out),
+                },
+                false => match out_le {
+                    true => steps_of(raw, channels, width, le, out_le, forward, out),
+                    false => steps_of(raw, channels, width, le, out_le, forward, out),
+                },
+            }
+        } else if width == 4 {
+            match le {
+                true => match out_le {
+                    true => steps_of(raw, channels, width, le, out_le, forward, out),
+                    false => steps_of(raw, channels, width, le, out_le, forward, out),
+                },
+                false => match out_le {
+                    true => steps_of(raw, channels, width, le, out_le, forward, out),
+                    false => steps_of(raw, channels, width, le, out_le, forward, out),
+                },
+            }
+        } else {
+            steps_of(raw, channels, width, le, out_le, forward, out)
+        }
+    } else if width == 3 {
+        match le {
+            true => match out_le {
+                true => steps_of(raw, channels, width, le, out_le, forward, out),
+                false => steps_of(raw, channels, width, le, out_le, forward, out),
+            },
+            false => match out_le {
+                true => steps_of(raw, channels, width, le, out_le, forward, out),
+                false => steps_of(raw, channels, width, le, out_le, forward, out),
+            },
+        }
     } else if width == 2 {
         match le {
             true => match out_le {
@@ -51,28 +86,8 @@ pub(crate) fn steps(
                 false => steps_of(raw, channels, width, le, out_le, forward, out),
             },
         }
-    } else if width == 4 {
-        match le {
-            true => match out_le {
-                true => steps_of(raw, channels, width, le, out_le, forward, out),
-                false => steps_of(raw, channels, width, le, out_le, forward, out),
-            },
-            false => match out_le {
-                true => steps_of(raw, channels, width, le, out_le, forward, out),
-                false => steps_of(raw, channels, width, le, out_le, forward, out),
-            },
-        }
-    } else if width == 8 {
-        match le {
-            true => match out_le {
-                true => steps_of(raw, channels, width, le, out_le, forward, out),
-                false => steps_of(raw, channels, width, le, out_le, forward, out),
-            },
-            false => match out_le {
-                true => steps_of(raw, channels, width, le, out_le, forward, out),
-                false => steps_of(raw, channels, width, le, out_le, forward, out),
-            },
-        }
+    } else if width == 1 {
+        steps_of(raw, channels, width, le, out_le, forward, out)
     } else {
         if forward {
             differences::differences(raw, channels, width, le, out_le, out)

@@ -22,7 +22,21 @@ pub(crate) fn alike(raw: &[u8], width: usize, le: bool, start: &[u64], out: &mut
     requires { ⌜ HeldFits (now raw) 1 width (now start) (now out) ⌝ }
     ensures { λ r. ⌜ ResumedInto (now (raw .entry)) 1 width le le (now (start .entry)) (now (out .entry)) (now (out .exit)) ⌝ }
 {
-    if width == 1 {
+    if 3 < width {
+        if width == 8 {
+            match le {
+                true => sums_of(raw, width, le, le, start, out),
+                false => sums_of(raw, width, le, le, start, out),
+            }
+        } else if width == 4 {
+            match le {
+                true => sums_of(raw, width, le, le, start, out),
+                false => sums_of(raw, width, le, le, start, out),
+            }
+        } else {
+            sums_of(raw, width, le, le, start, out)
+        }
+    } else if width == 3 {
         match le {
             true => sums_of(raw, width, le, le, start, out),
             false => sums_of(raw, width, le, le, start, out),
@@ -32,16 +46,8 @@ pub(crate) fn alike(raw: &[u8], width: usize, le: bool, start: &[u64], out: &mut
             true => sums_of(raw, width, le, le, start, out),
             false => sums_of(raw, width, le, le, start, out),
         }
-    } else if width == 4 {
-        match le {
-            true => sums_of(raw, width, le, le, start, out),
-            false => sums_of(raw, width, le, le, start, out),
-        }
-    } else if width == 8 {
-        match le {
-            true => sums_of(raw, width, le, le, start, out),
-            false => sums_of(raw, width, le, le, start, out),
-        }
+    } else if width == 1 {
+        sums_of(raw, width, le, le, start, out)
     } else {
         sums_of(raw, width, le, le, start, out)
     }
@@ -52,7 +58,21 @@ pub(crate) fn turned(raw: &[u8], width: usize, le: bool, start: &[u64], out: &mu
     requires { ⌜ HeldFits (now raw) 1 width (now start) (now out) ⌝ }
     ensures { λ r. ⌜ ResumedInto (now (raw .entry)) 1 width le (not le) (now (start .entry)) (now (out .entry)) (now (out .exit)) ⌝ }
 {
-    if width == 1 {
+    if 3 < width {
+        if width == 8 {
+            match le {
+                true => sums_of(raw, width, le, !le, start, out),
+                false => sums_of(raw, width, le, !le, start, out),
+            }
+        } else if width == 4 {
+            match le {
+                true => sums_of(raw, width, le, !le, start, out),
+                false => sums_of(raw, width, le, !le, start, out),
+            }
+        } else {
+            sums_of(raw, width, le, !le, start, out)
+        }
+    } else if width == 3 {
         match le {
             true => sums_of(raw, width, le, !le, start, out),
             false => sums_of(raw, width, le, !le, start, out),
@@ -62,16 +82,8 @@ pub(crate) fn turned(raw: &[u8], width: usize, le: bool, start: &[u64], out: &mu
             true => sums_of(raw, width, le, !le, start, out),
             false => sums_of(raw, width, le, !le, start, out),
         }
-    } else if width == 4 {
-        match le {
-            true => sums_of(raw, width, le, !le, start, out),
-            false => sums_of(raw, width, le, !le, start, out),
-        }
-    } else if width == 8 {
-        match le {
-            true => sums_of(raw, width, le, !le, start, out),
-            false => sums_of(raw, width, le, !le, start, out),
-        }
+    } else if width == 1 {
+        sums_of(raw, width, le, !le, start, out)
     } else {
         sums_of(raw, width, le, !le, start, out)
     }

@@ -30,7 +30,21 @@ pub(crate) fn alike(raw: &[u8], width: usize, le: bool, start: &[u64], out: &mut
     requires { ⌜ HeldFits (now raw) 3 width (now start) (now out) ⌝ }
     ensures { λ r. ⌜ ResumedInto (now (raw .entry)) 3 width le le (now (start .entry)) (now (out .entry)) (now (out .exit)) ⌝ }
 {
-    if width == 1 {
+    if 3 < width {
+        if width == 8 {
+            match le {
+                true => threes_of(raw, width, le, le, start, out),
+                false => threes_of(raw, width, le, le, start, out),
+            }
+        } else if width == 4 {
+            match le {
+                true => threes_of(raw, width, le, le, start, out),
+                false => threes_of(raw, width, le, le, start, out),
+            }
+        } else {
+            threes_of(raw, width, le, le, start, out)
+        }
+    } else if width == 3 {
         match le {
             true => threes_of(raw, width, le, le, start, out),
             false => threes_of(raw, width, le, le, start, out),
@@ -40,16 +54,8 @@ pub(crate) fn alike(raw: &[u8], width: usize, le: bool, start: &[u64], out: &mut
             true => threes_of(raw, width, le, le, start, out),
             false => threes_of(raw, width, le, le, start, out),
         }
-    } else if width == 4 {
-        match le {
-            true => threes_of(raw, width, le, le, start, out),
-            false => threes_of(raw, width, le, le, start, out),
-        }
-    } else if width == 8 {
-        match le {
-            true => threes_of(raw, width, le, le, start, out),
-            false => threes_of(raw, width, le, le, start, out),
-        }
+    } else if width == 1 {
+        threes_of(raw, width, le, le, start, out)
     } else {
         threes_of(raw, width, le, le, start, out)
     }
@@ -60,7 +66,21 @@ pub(crate) fn turned(raw: &[u8], width: usize, le: bool, start: &[u64], out: &mu
     requires { ⌜ HeldFits (now raw) 3 width (now start) (now out) ⌝ }
     ensures { λ r. ⌜ ResumedInto (now (raw .entry)) 3 width le (not le) (now (start .entry)) (now (out .entry)) (now (out .exit)) ⌝ }
 {
-    if width == 1 {
+    if 3 < width {
+        if width == 8 {
+            match le {
+                true => threes_of(raw, width, le, !le, start, out),
+                false => threes_of(raw, width, le, !le, start, out),
+            }
+        } else if width == 4 {
+            match le {
+                true => threes_of(raw, width, le, !le, start, out),
+                false => threes_of(raw, width, le, !le, start, out),
+            }
+        } else {
+            threes_of(raw, width, le, !le, start, out)
+        }
+    } else if width == 3 {
         match le {
             true => threes_of(raw, width, le, !le, start, out),
             false => threes_of(raw, width, le, !le, start, out),
@@ -70,16 +90,8 @@ pub(crate) fn turned(raw: &[u8], width: usize, le: bool, start: &[u64], out: &mu
             true => threes_of(raw, width, le, !le, start, out),
             false => threes_of(raw, width, le, !le, start, out),
         }
-    } else if width == 4 {
-        match le {
-            true => threes_of(raw, width, le, !le, start, out),
-            false => threes_of(raw, width, le, !le, start, out),
-        }
-    } else if width == 8 {
-        match le {
-            true => threes_of(raw, width, le, !le, start, out),
-            false => threes_of(raw, width, le, !le, start, out),
-        }
+    } else if width == 1 {
+        threes_of(raw, width, le, !le, start, out)
     } else {
         threes_of(raw, width, le, !le, start, out)
     }

@@ -26,7 +26,21 @@ pub(crate) fn alike(raw: &[u8], width: usize, le: bool, start: &[u64], out: &mut
     requires { ⌜ HeldFits (now raw) 2 width (now start) (now out) ⌝ }
     ensures { λ r. ⌜ ResumedInto (now (raw .entry)) 2 width le le (now (start .entry)) (now (out .entry)) (now (out .exit)) ⌝ }
 {
-    if width == 1 {
+    if 3 < width {
+        if width == 8 {
+            match le {
+                true => twos_of(raw, width, le, le, start, out),
+                false => twos_of(raw, width, le, le, start, out),
+            }
+        } else if width == 4 {
+            match le {
+                true => twos_of(raw, width, le, le, start, out),
+                false => twos_of(raw, width, le, le, start, out),
+            }
+        } else {
+            twos_of(raw, width, le, le, start, out)
+        }
+    } else if width == 3 {
         match le {
             true => twos_of(raw, width, le, le, start, out),
             false => twos_of(raw, width, le, le, start, out),
@@ -36,16 +50,8 @@ pub(crate) fn alike(raw: &[u8], width: usize, le: bool, start: &[u64], out: &mut
             true => twos_of(raw, width, le, le, start, out),
             false => twos_of(raw, width, le, le, start, out),
         }
-    } else if width == 4 {
-        match le {
-            true => twos_of(raw, width, le, le, start, out),
-            false => twos_of(raw, width, le, le, start, out),
-        }
-    } else if width == 8 {
-        match le {
-            true => twos_of(raw, width, le, le, start, out),
-            false => twos_of(raw, width, le, le, start, out),
-        }
+    } else if width == 1 {
+        twos_of(raw, width, le, le, start, out)
     } else {
         twos_of(raw, width, le, le, start, out)
     }
@@ -56,7 +62,21 @@ pub(crate) fn turned(raw: &[u8], width: usize, le: bool, start: &[u64], out: &mu
     requires { ⌜ HeldFits (now raw) 2 width (now start) (now out) ⌝ }
     ensures { λ r. ⌜ ResumedInto (now (raw .entry)) 2 width le (not le) (now (start .entry)) (now (out .entry)) (now (out .exit)) ⌝ }
 {
-    if width == 1 {
+    if 3 < width {
+        if width == 8 {
+            match le {
+                true => twos_of(raw, width, le, !le, start, out),
+                false => twos_of(raw, width, le, !le, start, out),
+            }
+        } else if width == 4 {
+            match le {
+                true => twos_of(raw, width, le, !le, start, out),
+                false => twos_of(raw, width, le, !le, start, out),
+            }
+        } else {
+            twos_of(raw, width, le, !le, start, out)
+        }
+    } else if width == 3 {
         match le {
             true => twos_of(raw, width, le, !le, start, out),
             false => twos_of(raw, width, le, !le, start, out),
@@ -66,16 +86,8 @@ pub(crate) fn turned(raw: &[u8], width: usize, le: bool, start: &[u64], out: &mu
             true => twos_of(raw, width, le, !le, start, out),
             false => twos_of(raw, width, le, !le, start, out),
         }
-    } else if width == 4 {
-        match le {
-            true => twos_of(raw, width, le, !le, start, out),
-            false => twos_of(raw, width, le, !le, start, out),
-        }
-    } else if width == 8 {
-        match le {
-            true => twos_of(raw, width, le, !le, start, out),
-            false => twos_of(raw, width, le, !le, start, out),
-        }
+    } else if width == 1 {
+        twos_of(raw, width, le, !le, start, out)
     } else {
         twos_of(raw, width, le, !le, start, out)
     }

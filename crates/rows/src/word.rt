@@ -14,6 +14,13 @@ fn little2(s: &[u8], at: usize) -> u16
     words::join2(s[at + 0], s[at + 1])
 }
 
+fn little3(s: &[u8], at: usize) -> u32
+    requires { ⌜ at + 3 ≤ length (now s) ⌝ }
+    ensures { λ r. ⌜ r ≡ wordAt (now (s .entry)) at 3 true ⌝ }
+{
+    words::join3(s[at + 0], s[at + 1], s[at + 2])
+}
+
 fn little4(s: &[u8], at: usize) -> u32
     requires { ⌜ at + 4 ≤ length (now s) ⌝ }
     ensures { λ r. ⌜ r ≡ wordAt (now (s .entry)) at 4 true ⌝ }
@@ -45,6 +52,15 @@ fn store2(out: &mut [u8], at: usize, v: u16)
     out[at + 1] = (v / 256 % 256) as u8;
 }
 
+fn store3(out: &mut [u8], at: usize, v: u32)
+    requires { ⌜ Within at 3 (now out) ⌝ }
+    ensures { λ r. ⌜ Put (now (out .entry)) at 3 true v (now (out .exit)) ⌝ }
+{
+    out[at + 0] = (v / 1 % 256) as u8;
+    out[at + 1] = (v / 256 % 256) as u8;
+    out[at + 2] = (v / 65536 % 256) as u8;
+}
+
 fn store4(out: &mut [u8], at: usize, v: u32)
     requires { ⌜ Within at 4 (now out) ⌝ }
     ensures { λ r. ⌜ Put (now (out .entry)) at 4 true v (now (out .exit)) ⌝ }
@@ -72,6 +88,8 @@ fn little(s: &[u8], at: usize, width: usize) -> u64
         s[at] as u64
     } else if width == 2 {
         little2(s, at) as u64
+    } else if width == 3 {
+        little3(s, at) as u64
     } else if width == 4 {
         little4(s, at) as u64
     } else {
@@ -88,6 +106,8 @@ fn store(out: &mut [u8], at: usize, width: usize, v: u64)
         out[at + 0] = (v / 1 % 256) as u8;
     } else if width == 2 {
         store2(out, at, (v % 65536) as u16)
+    } else if width == 3 {
+        store3(out, at, (v % 16777216) as u32)
     } else if width == 4 {
         store4(out, at, (v % 4294967296) as u32)
     } else {
@@ -104,6 +124,8 @@ fn backwards(v: u64, width: usize) -> u64
         v % 256
     } else if width == 2 {
         words::backwards2((v % 65536) as u16) as u64
+    } else if width == 3 {
+        words::backwards3((v % 16777216) as u32) as u64
     } else if width == 4 {
         words::backwards4((v % 4294967296) as u32) as u64
     } else {
@@ -138,6 +160,8 @@ pub(crate) fn add(a: u64, b: u64, width: usize) -> u64
         std::num::wrapping_add_u64(a, b) % 256
     } else if width == 2 {
         std::num::wrapping_add_u64(a, b) % 65536
+    } else if width == 3 {
+        std::num::wrapping_add_u64(a, b) % 16777216
     } else if width == 4 {
         std::num::wrapping_add_u64(a, b) % 4294967296
     } else {
@@ -153,6 +177,8 @@ pub(crate) fn sub(a: u64, b: u64, width: usize) -> u64
         std::num::wrapping_sub_u64(a, b) % 256
     } else if width == 2 {
         std::num::wrapping_sub_u64(a, b) % 65536
+    } else if width == 3 {
+        std::num::wrapping_sub_u64(a, b) % 16777216
     } else if width == 4 {
         std::num::wrapping_sub_u64(a, b) % 4294967296
     } else {
@@ -177,6 +203,8 @@ pub(crate) fn past(n: usize, width: usize) -> usize
         0
     } else if width == 2 {
         n % 2
+    } else if width == 3 {
+        n % 3
     } else if width == 4 {
         n % 4
     } else {

@@ -23,6 +23,9 @@ joined-determined bytes x y p q = p ∙ sym q
 pub join2-determined : (a b x y : ℕ) → Joined (a ∷ b ∷ []) x → Joined (a ∷ b ∷ []) y → x ≡ y
 join2-determined a b = joined-determined (a ∷ b ∷ [])
 
+pub join3-determined : (a b c x y : ℕ) → Joined (a ∷ b ∷ c ∷ []) x → Joined (a ∷ b ∷ c ∷ []) y → x ≡ y
+join3-determined a b c = joined-determined (a ∷ b ∷ c ∷ [])
+
 pub join4-determined : (a b c d x y : ℕ) → Joined (a ∷ b ∷ c ∷ d ∷ []) x → Joined (a ∷ b ∷ c ∷ d ∷ []) y → x ≡ y
 join4-determined a b c d = joined-determined (a ∷ b ∷ c ∷ d ∷ [])
 
@@ -34,6 +37,9 @@ backwards-determined width v x y p q = p ∙ sym q
 
 pub backwards2-determined : (v x y : ℕ) → x ≡ backwards 2 v → y ≡ backwards 2 v → x ≡ y
 backwards2-determined = backwards-determined 2
+
+pub backwards3-determined : (v x y : ℕ) → x ≡ backwards 3 v → y ≡ backwards 3 v → x ≡ y
+backwards3-determined = backwards-determined 3
 
 pub backwards4-determined : (v x y : ℕ) → x ≡ backwards 4 v → y ≡ backwards 4 v → x ≡ y
 backwards4-determined = backwards-determined 4

@@ -9,29 +9,31 @@ use Rattle.words.specs.Promises.{served, loadWidth}
 use Rattle.words.proofs.Among.{OneOf, among-one}
 
 -- the widths served, one by one
-pub served-one : (width : ℕ) → served width ≡ true → OneOf width (1 ∷ 2 ∷ 4 ∷ 8 ∷ [])
+pub served-one : (width : ℕ) → served width ≡ true → OneOf width (1 ∷ 2 ∷ 3 ∷ 4 ∷ 8 ∷ [])
 unfolding served
-served-one width e = among-one width (1 ∷ 2 ∷ 4 ∷ 8 ∷ []) e
+served-one width e = among-one width (1 ∷ 2 ∷ 3 ∷ 4 ∷ 8 ∷ []) e
 
-pub served-eight : (width : ℕ) → served width ≡ true → (width ≡ 1 → ⊥) → (width ≡ 2 → ⊥) → (width ≡ 4 → ⊥) → width ≡ 8
-served-eight width e n1 n2 n4 = by (served-one width e)
+pub served-eight : (width : ℕ) → served width ≡ true → (width ≡ 1 → ⊥) → (width ≡ 2 → ⊥) → (width ≡ 3 → ⊥) → (width ≡ 4 → ⊥) → width ≡ 8
+served-eight width e n1 n2 n3 n4 = by (served-one width e)
   where
-    by : OneOf width (1 ∷ 2 ∷ 4 ∷ 8 ∷ []) → width ≡ 8
+    by : OneOf width (1 ∷ 2 ∷ 3 ∷ 4 ∷ 8 ∷ []) → width ≡ 8
     by (inl a) = absurd (n1 a)
     by (inr (inl a)) = absurd (n2 a)
-    by (inr (inr (inl a))) = absurd (n4 a)
-    by (inr (inr (inr (inl a)))) = a
-    by (inr (inr (inr (inr z)))) = absurd z
+    by (inr (inr (inl a))) = absurd (n3 a)
+    by (inr (inr (inr (inl a)))) = absurd (n4 a)
+    by (inr (inr (inr (inr (inl a))))) = a
+    by (inr (inr (inr (inr (inr z))))) = absurd z
 
 pub served-some : (width : ℕ) → served width ≡ true → (0 < width) × (width ≤ 8)
 served-some width e = by (served-one width e)
   where
-    by : OneOf width (1 ∷ 2 ∷ 4 ∷ 8 ∷ []) → (0 < width) × (width ≤ 8)
+    by : OneOf width (1 ∷ 2 ∷ 3 ∷ 4 ∷ 8 ∷ []) → (0 < width) × (width ≤ 8)
     by (inl a) = omega arith
     by (inr (inl a)) = omega arith
     by (inr (inr (inl a))) = omega arith
     by (inr (inr (inr (inl a)))) = omega arith
-    by (inr (inr (inr (inr z)))) = absurd z
+    by (inr (inr (inr (inr (inl a))))) = omega arith
+    by (inr (inr (inr (inr (inr z))))) = absurd z
 
 pub load-served : (wide : Bool) → served (loadWidth wide) ≡ true
 unfolding served

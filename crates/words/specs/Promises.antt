@@ -22,7 +22,7 @@ among n (x ∷ xs) = eqb n x || among n xs
 
 -- the widths of which words are read
 unfoldable pub served : ℕ → Bool
-served width = among width (1 ∷ 2 ∷ 4 ∷ 8 ∷ [])
+served width = among width (1 ∷ 2 ∷ 3 ∷ 4 ∷ 8 ∷ [])
 
 abbrev pub wordOutcome : Word → Outcome ℕ
 wordOutcome (Word-is.Value v) = done v

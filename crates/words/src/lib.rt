@@ -1,4 +1,4 @@
-// Words: two, four or eight bytes as one number, in either byte order, and the byte that stands for itself.
+// Words: two, three, four or eight bytes as one number, in either byte order, and the byte that stands for itself.
 use answer::ByteAt;
 use answer::Refusal;
 use answer::SampleAt;
@@ -38,6 +38,9 @@ pub fn width_served(width: usize) -> bool
     if width == 2 {
         return true;
     }
+    if width == 3 {
+        return true;
+    }
     if width == 4 {
         return true;
     }
@@ -49,6 +52,13 @@ pub fn join2(a: u8, b: u8) -> u16
     ensures { λ r. ⌜ Joined (a ∷ b ∷ []) r ⌝ }
 {
     (a as u16) + 256 * (b as u16)
+}
+
+// The word of three bytes, the least significant first.
+pub fn join3(a: u8, b: u8, c: u8) -> u32
+    ensures { λ r. ⌜ Joined (a ∷ b ∷ c ∷ []) r ⌝ }
+{
+    (a as u32) + 256 * (b as u32) + 65536 * (c as u32)
 }
 
 // The word of four bytes, the least significant first.
@@ -70,6 +80,13 @@ pub fn backwards2(v: u16) -> u16
     ensures { λ r. ⌜ r ≡ backwards 2 v ⌝ }
 {
     v % 256 * 256 + v / 256 % 256
+}
+
+// Three, the low ones of any number.
+pub fn backwards3(v: u32) -> u32
+    ensures { λ r. ⌜ r ≡ backwards 3 v ⌝ }
+{
+    v % 256 * 65536 + v / 256 % 256 * 256 + v / 65536 % 256
 }
 
 // Four.
@@ -115,6 +132,13 @@ fn little2(s: &[u8], at: usize) -> u16
     join2(s[at + 0], s[at + 1])
 }
 
+fn little3(s: &[u8], at: usize) -> u32
+    requires { ⌜ at + 3 ≤ length (now s) ⌝ }
+    ensures { λ r. ⌜ r ≡ wordAt (now (s .entry)) at 3 true ⌝ }
+{
+    join3(s[at + 0], s[at + 1], s[at + 2])
+}
+
 fn little4(s: &[u8], at: usize) -> u32
     requires { ⌜ at + 4 ≤ length (now s) ⌝ }
     ensures { λ r. ⌜ r ≡ wordAt (now (s .entry)) at 4 true ⌝ }
@@ -147,6 +171,9 @@ fn get(s: &[u8], at: usize, width: usize, le: bool) -> u64
     } else if width == 2 {
         let v = little2(s, at);
         if le { v as u64 } else { backwards2(v) as u64 }
+    } else if width == 3 {
+        let v = little3(s, at);
+        if le { v as u64 } else { backwards3(v) as u64 }
     } else if width == 4 {
         let v = little4(s, at);
         if le { v as u64 } else { backwards4(v) as u64 }

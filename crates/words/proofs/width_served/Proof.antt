@@ -20,7 +20,17 @@ returns-3 c = simp (ne-eqb _ _ (c .before .before .if1 .left), ne-eqb _ _ (c .be
 
 returns-4 : tie.Need-returns-4
 unfolding served
-returns-4 c = rw (ne-eqb _ _ (c .before .before .if1 .left), ne-eqb _ _ (c .before .if2 .left), ne-eqb _ _ (c .if3 .left)) (sym (or-false _))
+returns-4 c =
+    let three = c .before in
+    let two = three .before in
+    simp (ne-eqb _ _ (two .before .if1 .left), ne-eqb _ _ (two .if2 .left), ne-eqb _ _ (three .if3 .left), eq-eqb _ _ (c .if4 .taken))
+
+returns-5 : tie.Need-returns-5
+unfolding served
+returns-5 c =
+    let three = c .before in
+    let two = three .before in
+    rw (ne-eqb _ _ (two .before .if1 .left), ne-eqb _ _ (two .if2 .left), ne-eqb _ _ (three .if3 .left), ne-eqb _ _ (c .if4 .left)) (sym (or-false _))
 
 pub width-served-spec : {M : Type 1} → statement M
-width-served-spec = tie.close (tie.spec returns returns-2 returns-3 returns-4)
+width-served-spec = tie.close (tie.spec returns returns-2 returns-3 returns-4 returns-5)

@@ -7,15 +7,19 @@ use Rattle.rows.proofs.word.add.Statement.{statement}
 use Rattle.rows.proofs.word.add.Tie as tie
 
 -- the width that is left
-eight : (c : tie.Else3) → c .before .before .before .args .width ≡ 8
-eight c = served-eight _ (c .before .before .before .pre) (c .before .before .if1 .left) (c .before .if2 .left) (c .if3 .left)
+eight : (c : tie.Else4) → c .before .before .before .before .args .width ≡ 8
+eight c =
+    let three = c .before in
+    let two = three .before in
+    served-eight _ (two .before .before .pre) (two .before .if1 .left) (two .if2 .left) (three .if3 .left) (c .if4 .left)
 
 pub add-spec : {M : Type 1} → statement M
 add-spec =
     tie.close
     (tie.spec
-    (λ c κs. search needs) (λ c κs. search needs) (λ c κs. search needs) (λ c κs. search needs)
+    (λ c κs. search needs) (λ c κs. search needs) (λ c κs. search needs) (λ c κs. search needs) (λ c κs. search needs)
     (λ c. rw (c .before .if1 .taken) (omega (arith, c .wrapping-add-u64 .ensures)))
     (λ c. rw (c .before .if2 .taken) (omega (arith, c .wrapping-add-u642 .ensures)))
     (λ c. rw (c .before .if3 .taken) (omega (arith, c .wrapping-add-u643 .ensures)))
-    (λ c. rw (eight (c .before)) (omega (arith, c .wrapping-add-u644 .ensures))))
+    (λ c. rw (c .before .if4 .taken) (omega (arith, c .wrapping-add-u644 .ensures)))
+    (λ c. rw (eight (c .before)) (omega (arith, c .wrapping-add-u645 .ensures))))

@@ -10,14 +10,17 @@ use Rattle.rows.proofs.word.store.Statement.{statement}
 use Rattle.rows.proofs.word.store.Tie as tie
 
 -- the width that is left
-eight : (c : tie.Else3) → c .before .before .before .before .args .width ≡ 8
-eight c = served-eight _ (c .before .before .before .before .pre .0) (c .before .before .if1 .left) (c .before .if2 .left) (c .if3 .left)
+eight : (c : tie.Else4) → c .before .before .before .before .before .args .width ≡ 8
+eight c =
+    let three = c .before in
+    let two = three .before in
+    served-eight _ (two .before .before .before .pre .0) (two .before .if1 .left) (two .if2 .left) (three .if3 .left) (c .if4 .left)
 
 pub store-spec : {M : Type 1} → statement M
 store-spec =
     tie.close
     (tie.spec
-    (λ c. search needs) (λ c. search needs) (λ c. search needs) (λ c. search needs) (λ c κs. search needs) (λ c. search needs) (λ c κs. search needs)
+    (λ c. search needs) (λ c. search needs) (λ c. search needs) (λ c. search needs) (λ c κs. search needs) (λ c. search needs) (λ c κs. search needs) (λ c. search needs) (λ c κs. search needs)
     (λ c κs. omega (arith, eight (c .before)))
     (λ c. search needs)
     (λ c. rw (c .if1 .taken))
@@ -32,6 +35,12 @@ store-spec =
     let stored = c .before .before in
     let arm = stored .before .before in
     let args = arm .before .before .before .before .args in
-    rw (arm .if3 .taken) (put-rest (now (args .out)) (args .at) 4 true (args .v) _ (stored .store4 .ensures)))
+    rw (arm .if3 .taken) (put-rest (now (args .out)) (args .at) 3 true (args .v) _ (stored .store3 .ensures)))
+    (λ c. search needs)
+    (λ c.
+    let stored = c .before .before in
+    let arm = stored .before .before in
+    let args = arm .before .before .before .before .before .args in
+    rw (arm .if4 .taken) (put-rest (now (args .out)) (args .at) 4 true (args .v) _ (stored .store4 .ensures)))
     (λ c. search needs)
     (λ c. let stored = c .before .before in rw (eight (stored .before .before)) (put-halves (stored .store8 .ensures))))

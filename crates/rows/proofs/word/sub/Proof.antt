@@ -7,15 +7,19 @@ use Rattle.rows.proofs.word.sub.Statement.{statement}
 use Rattle.rows.proofs.word.sub.Tie as tie
 
 -- the width that is left
-eight : (c : tie.Else3) → c .before .before .before .args .width ≡ 8
-eight c = served-eight _ (c .before .before .before .pre .0) (c .before .before .if1 .left) (c .before .if2 .left) (c .if3 .left)
+eight : (c : tie.Else4) → c .before .before .before .before .args .width ≡ 8
+eight c =
+    let three = c .before in
+    let two = three .before in
+    served-eight _ (two .before .before .pre .0) (two .before .if1 .left) (two .if2 .left) (three .if3 .left) (c .if4 .left)
 
 pub sub-spec : {M : Type 1} → statement M
 sub-spec =
     tie.close
     (tie.spec
-    (λ c κs. search needs) (λ c κs. search needs) (λ c κs. search needs) (λ c κs. search needs)
+    (λ c κs. search needs) (λ c κs. search needs) (λ c κs. search needs) (λ c κs. search needs) (λ c κs. search needs)
     (λ c. let small = rw (c .before .if1 .taken) at (c .before .before .pre .1) in rw (c .before .if1 .taken) (omega (arith, c .wrapping-sub-u64 .ensures)))
     (λ c. let small = rw (c .before .if2 .taken) at (c .before .before .before .pre .1) in rw (c .before .if2 .taken) (omega (arith, c .wrapping-sub-u642 .ensures)))
     (λ c. let small = rw (c .before .if3 .taken) at (c .before .before .before .before .pre .1) in rw (c .before .if3 .taken) (omega (arith, c .wrapping-sub-u643 .ensures)))
-    (λ c. let small = rw (eight (c .before)) at (c .before .before .before .before .pre .1) in rw (eight (c .before)) (omega (arith, c .wrapping-sub-u644 .ensures))))
+    (λ c. let small = rw (c .before .if4 .taken) at (c .before .before .before .before .before .pre .1) in rw (c .before .if4 .taken) (omega (arith, c .wrapping-sub-u644 .ensures)))
+    (λ c. let small = rw (eight (c .before)) at (c .before .before .before .before .before .pre .1) in rw (eight (c .before)) (omega (arith, c .wrapping-sub-u645 .ensures))))
