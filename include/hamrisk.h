@@ -39,7 +39,7 @@ enum {
 
 /*
  * The word of `width` bytes at byte `at` of s, the first byte the least significant if `le`, else the most significant.
- * Refuses: width not 1, 2, 4 or 8: 1; at + width past s_len: 3.
+ * Refuses: width not 1, 2, 3, 4 or 8: 1; at + width past s_len: 3.
  * Writes: *value, the word.
  */
 uint32_t hamrisk_read_word(const uint8_t *s, size_t s_len, size_t at, size_t width, bool le, uint64_t *value);
@@ -53,7 +53,7 @@ uint32_t hamrisk_load(const uint8_t *s, size_t s_len, size_t i, bool wide, bool 
 
 /*
  * Whether a strip of raw_len bytes has rows of row_bytes bytes, and pixels of `channels` samples of `width` bytes.
- * Refuses: width not 1, 2, 4 or 8, channels 0 or above 64, or row_bytes 0: 1;
+ * Refuses: width not 1, 2, 3, 4 or 8, channels 0 or above 64, or row_bytes 0: 1;
  *          row_bytes no multiple of channels * width, or raw_len no multiple of row_bytes: 2.
  * Writes nothing.
  */

@@ -44,6 +44,30 @@ word!(u16);
 word!(u32);
 word!(u64);
 
+/// Three bytes of a u32, whose fourth is let run over and never stored.
+#[derive(Clone, Copy, Default)]
+struct Three(u32);
+
+impl Word for Three {
+    const BYTES: usize = 3;
+    #[inline(always)]
+    fn get(s: &[u8], le: bool) -> Self {
+        Three(if le { u32::from_le_bytes([s[0], s[1], s[2], 0]) } else { u32::from_be_bytes([0, s[0], s[1], s[2]]) })
+    }
+    #[inline(always)]
+    fn put(self, s: &mut [u8], le: bool) {
+        s.copy_from_slice(&if le { self.0.to_le_bytes() } else { (self.0 << 8).to_be_bytes() }[..3]);
+    }
+    #[inline(always)]
+    fn add(self, other: Self) -> Self {
+        Three(self.0.wrapping_add(other.0))
+    }
+    #[inline(always)]
+    fn sub(self, other: Self) -> Self {
+        Three(self.0.wrapping_sub(other.0))
+    }
+}
+
 #[inline(always)]
 fn reorder<T: Word>(raw: &[u8], le: bool, out: &mut [u8], out_le: bool) {
     if le == out_le || T::BYTES == 1 {
@@ -133,6 +157,7 @@ fn transform(raw: &[u8], s: Strip, c: Coding, out: &mut [u8], forward: bool) {
     match s.width {
         1 => ordered::<u8>(raw, s, c, out, forward),
         2 => ordered::<u16>(raw, s, c, out, forward),
+        3 => ordered::<Three>(raw, s, c, out, forward),
         4 => ordered::<u32>(raw, s, c, out, forward),
         _ => ordered::<u64>(raw, s, c, out, forward),
     }
@@ -157,6 +182,7 @@ pub fn marks(damage: &[u8], s: Strip, predict: bool, marks: &mut [u8]) -> usize 
         match s.width {
             1 => own::<1>(d, m),
             2 => own::<2>(d, m),
+            3 => own::<3>(d, m),
             4 => own::<4>(d, m),
             _ => own::<8>(d, m),
         }

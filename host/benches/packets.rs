@@ -45,7 +45,7 @@ fn row(strip: Strip, coding: Coding) {
 pub fn print() {
     let heads = PIECES.map(|piece| format!("pieces of {piece} | to convert"));
     println!("\n| strip of about 1 MiB | convert, bytes per ns | {} |\n|---|---|---|---|---|---|", heads.join(" | "));
-    for (width, channels) in [1, 2, 4, 8].into_iter().flat_map(|width| [1, 3, 4].map(|channels| (width, channels))) {
+    for (width, channels) in [1, 2, 3, 4, 8].into_iter().flat_map(|width| [1, 3, 4].map(|channels| (width, channels))) {
         let strip = Strip { row_bytes: 1024 * channels * width, channels, width };
         for (predict, from) in [true, false].into_iter().flat_map(|predict| ORDERS.map(|from| (predict, from))) {
             if width > 1 || from == ByteOrder::Little {

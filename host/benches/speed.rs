@@ -165,7 +165,7 @@ fn strips(run: &Run, size: usize) {
         let strip = Strip { row_bytes: 64, channels: 1, width: 2 };
         samples(run, size, strip, "convert, rows of 64 bytes", hamrisk::convert, by_hand::convert);
     }
-    for width in [1, 2, 4, 8] {
+    for width in [1, 2, 3, 4, 8] {
         for channels in [1, 2, 3, 4] {
             let strip = Strip { row_bytes: 1024 * channels * width, channels, width };
             if run.has("convert") {
@@ -188,10 +188,20 @@ fn geometry(strip: Strip, predict: bool, swapped: bool) -> String {
     format!("width {width}, channels {channels}{predicted}{}", if swapped { ", swapped" } else { "" })
 }
 
+const PAGE: usize = 4096;
+
+/// Bytes of a buffer that begin where a page does. A processor that tells loads from stores by their place in a page lets
+/// some wait for others, so that both outputs have to stand alike to the input.
+fn from_page(space: &mut [u8], n: usize) -> &mut [u8] {
+    let first = space.as_ptr().align_offset(PAGE);
+    &mut space[first..first + n]
+}
+
 fn samples(run: &Run, size: usize, strip: Strip, name: &str, ours: Call, hand: Hand) {
     let n = size / strip.row_bytes * strip.row_bytes;
-    let raw = noise(n, 88172645463325252);
-    let (mut a, mut b) = (vec![0; n], vec![0; n]);
+    let mut spaces = [(); 3].map(|()| vec![0; n + PAGE]);
+    let [raw, a, b] = spaces.each_mut().map(|space| from_page(space, n));
+    raw.copy_from_slice(&noise(n, 88172645463325252));
     for predict in [true, false] {
         for from in [ByteOrder::Little, ByteOrder::Big] {
             let swapped = from == ByteOrder::Big;
@@ -200,8 +210,8 @@ fn samples(run: &Run, size: usize, strip: Strip, name: &str, ours: Call, hand: H
             }
             let coding = Coding { from, to: ByteOrder::Little, predict };
             let times = both(
-                || ours(black_box(&raw), strip, coding, &mut a).unwrap(),
-                || hand(black_box(&raw), strip, coding, black_box(&mut b)),
+                || ours(black_box(raw), strip, coding, a).unwrap(),
+                || hand(black_box(raw), strip, coding, black_box(b)),
             );
             let what = format!("{name}, {}", geometry(strip, predict, swapped));
             assert!(a == b, "{what}");

@@ -1,6 +1,7 @@
 /*
- * The cases A, C, D, E, F, I, J and L of docs/RULES.md, A in pieces too, a small TIFF file read and one written, and some
- * refusals, through include/hamrisk.h. Prints a line for each check that differs and one of counts; ends with 1 if any differs.
+ * The cases A, C, D, E, F, I, J and L of docs/RULES.md, A in pieces too, three-byte words, a small TIFF file read and one
+ * written, and some refusals, through include/hamrisk.h. Prints a line for each check that differs and one of counts; ends
+ * with 1 if any differs.
  */
 #include "hamrisk.h"
 
@@ -35,6 +36,10 @@ static bool holds(const uint8_t *out, const uint8_t *expected, size_t length) {
     return memcmp(out, expected, length) == 0;
 }
 
+/* A row of three-byte words, the least significant byte first, and its samples, the most significant first. */
+static const uint8_t depth[9] = {0xFF, 0xFF, 0xFF, 0x02, 0x00, 0x00, 0xFE, 0xFF, 0xFF};
+static const uint8_t depths[9] = {0xFF, 0xFF, 0xFF, 0x00, 0x00, 0x01, 0xFF, 0xFF, 0xFF};
+
 static void samples(void) {
     const uint8_t a_raw[6] = {0x01, 0x00, 0x02, 0x00, 0xFF, 0xFF};
     const uint8_t a_out[6] = {0x00, 0x01, 0x00, 0x03, 0x00, 0x02};
@@ -50,14 +55,39 @@ static void samples(void) {
     check("D", hamrisk_forward(c_out, 4, 2, 1, 1, true, true, true, out, 4) == HAMRISK_DONE && holds(out, c_raw, 4));
 
     clear(out);
-    check("width 3 and a ragged row",
-          hamrisk_convert(a_raw, 6, 7, 1, 3, true, true, true, out, 0) == HAMRISK_UNSUPPORTED && holds(out, NULL, 0));
+    check("three bytes, a sum past the greatest",
+          hamrisk_convert(depth, 9, 9, 1, 3, true, true, false, out, ROOM) == HAMRISK_DONE && holds(out, depths, 9));
+    clear(out);
+    check("a difference below 0",
+          hamrisk_forward(depths, 9, 9, 1, 3, false, true, true, out, ROOM) == HAMRISK_DONE && holds(out, depth, 9));
+
+    clear(out);
+    check("width 5 and a ragged row",
+          hamrisk_convert(a_raw, 6, 7, 1, 5, true, true, true, out, 0) == HAMRISK_UNSUPPORTED && holds(out, NULL, 0));
+    check("a ragged row of width 3",
+          hamrisk_convert(a_raw, 6, 7, 1, 3, true, true, true, out, 0) == HAMRISK_INVALID && holds(out, NULL, 0));
     check("a ragged row and a short output",
           hamrisk_convert(a_raw, 6, 5, 1, 2, true, true, true, out, 0) == HAMRISK_INVALID && holds(out, NULL, 0));
     check("a short output",
           hamrisk_convert(a_raw, 6, 6, 1, 2, true, true, true, out, 5) == HAMRISK_OUTPUT_TOO_SMALL && holds(out, NULL, 0));
     check("64 channels", hamrisk_check_strip(128, 64, 64, 1) == HAMRISK_DONE);
     check("65 channels", hamrisk_check_strip(130, 65, 65, 1) == HAMRISK_UNSUPPORTED);
+}
+
+/* A strip of three-byte words, one byte after the other. */
+static void packets_of_three(void) {
+    uint64_t state[HAMRISK_PACKETS];
+    uint8_t out[ROOM];
+    size_t done = 0, written = 77;
+
+    clear(out);
+    check("packets of width 3", hamrisk_packets_start(9, 1, 3, true, true, false, state) == HAMRISK_DONE);
+    for (size_t n = 0; n < 9; n += 1) {
+        check("a byte of three", hamrisk_packets_piece(state, depth + n, 1, out + done, ROOM - done, &written) == HAMRISK_DONE
+                                     && written == (n % 3 == 2 ? 3 : 0));
+        done += written;
+    }
+    check("the last of three", holds(out, depths, 9) && hamrisk_packets_close(state) == HAMRISK_DONE);
 }
 
 /* The strip of A, in four pieces that split its words. */
@@ -69,7 +99,7 @@ static void packets(void) {
     size_t first = 77, written = 77;
 
     memset(state, CANARY, sizeof state);
-    check("packets of width 3", hamrisk_packets_start(6, 1, 3, true, true, false, state) == HAMRISK_UNSUPPORTED
+    check("packets of width 5", hamrisk_packets_start(6, 1, 5, true, true, false, state) == HAMRISK_UNSUPPORTED
                                     && state[0] == 0 && state[HAMRISK_PACKETS - 1] == 0
                                     && hamrisk_packets_close(state) == HAMRISK_INVALID);
     check("packets", hamrisk_packets_start(6, 1, 2, true, true, false, state) == HAMRISK_DONE
@@ -109,6 +139,8 @@ static void bytes(void) {
     check("a copy", hamrisk_commit(raw, 6, out, 6) == HAMRISK_DONE && holds(out, raw, 6));
 
     check("a place that would wrap", hamrisk_read_word(raw, 6, SIZE_MAX, 2, true, &word) == HAMRISK_TRUNCATED && word == 77);
+    check("three bytes", hamrisk_read_word(raw, 6, 3, 3, true, &word) == HAMRISK_DONE && word == 0x060504
+                             && hamrisk_read_word(raw, 6, 3, 3, false, &word) == HAMRISK_DONE && word == 0x040506);
     check("a word", hamrisk_read_word(raw, 6, 2, 4, false, &word) == HAMRISK_DONE && word == 0x03040506);
     check("a sample past the end", hamrisk_load(raw, 6, 3, true, true, &sample) == HAMRISK_TRUNCATED && sample == 77);
     check("a sample", hamrisk_load(raw, 6, 2, true, true, &sample) == HAMRISK_DONE && sample == 0x0605);
@@ -307,6 +339,7 @@ static void written(void) {
 int main(void) {
     samples();
     packets();
+    packets_of_three();
     bytes();
     damage();
     pictures();

@@ -170,7 +170,7 @@ fn is_little(order: ByteOrder) -> bool {
 
 /// The word of `width` bytes at a byte of `s`.
 ///
-/// Refuses: a width not 1, 2, 4 or 8 is Unsupported; `at` + `width` past the end is Truncated.
+/// Refuses: a width not 1, 2, 3, 4 or 8 is Unsupported; `at` + `width` past the end is Truncated.
 ///
 /// ```
 /// use hamrisk::{read_word, ByteAt, ByteOrder, Refusal};
@@ -204,14 +204,14 @@ pub fn load(s: &[u8], i: SampleAt, wide: bool, order: ByteOrder) -> Result<u32, 
 
 /// Whether a strip of `raw_len` bytes has this geometry.
 ///
-/// Refuses: a width not 1, 2, 4 or 8, channels 0 or above 64, or row bytes 0 is Unsupported; then row bytes no multiple
+/// Refuses: a width not 1, 2, 3, 4 or 8, channels 0 or above 64, or row bytes 0 is Unsupported; then row bytes no multiple
 /// of channels × width, or `raw_len` no multiple of row bytes, is Invalid.
 ///
 /// ```
 /// use hamrisk::{check_strip, Refusal, Strip};
 ///
 /// assert_eq!(check_strip(12, Strip { row_bytes: 6, channels: 3, width: 1 }), Ok(()));
-/// assert_eq!(check_strip(12, Strip { row_bytes: 7, channels: 3, width: 3 }), Err(Refusal::Unsupported));
+/// assert_eq!(check_strip(12, Strip { row_bytes: 7, channels: 3, width: 5 }), Err(Refusal::Unsupported));
 /// assert_eq!(check_strip(12, Strip { row_bytes: 7, channels: 3, width: 2 }), Err(Refusal::Invalid));
 /// ```
 pub fn check_strip(raw_len: usize, strip: Strip) -> Result<(), Refusal> {

@@ -3,13 +3,13 @@
 
 use std::fmt;
 
-/// Which values of a number are served. It reads as a list or a range: `1, 2, 4 or 8`, `1 to 64`.
+/// Which values of a number are served. It reads as a list or a range: `1, 2, 3, 4 or 8`, `1 to 64`.
 ///
 /// ```
 /// use hamrisk::limits::WIDTHS;
 ///
-/// assert!(WIDTHS.has(4) && !WIDTHS.has(3));
-/// assert_eq!(WIDTHS.to_string(), "1, 2, 4 or 8");
+/// assert!(WIDTHS.has(4) && !WIDTHS.has(5));
+/// assert_eq!(WIDTHS.to_string(), "1, 2, 3, 4 or 8");
 /// ```
 #[derive(Clone, Copy, Debug, PartialEq, Eq)]
 pub enum Served {
@@ -49,7 +49,7 @@ impl fmt::Display for Served {
 }
 
 /// Bytes of a word of [`read_word`](crate::read_word), and of a sample of a [`Strip`](crate::Strip).
-pub const WIDTHS: Served = Served::OneOf(&[1, 2, 4, 8]);
+pub const WIDTHS: Served = Served::OneOf(&[1, 2, 3, 4, 8]);
 
 /// The most bytes of a strip that arrives in [`Packets`](crate::Packets).
 pub const MOST_STRIP_BYTES: usize = 1_073_741_824;

@@ -126,6 +126,11 @@ fn convert_and_forward() {
     let plain =
         folder.written(&raw, "convert in out --row-bytes 6 --channels 3 --width 2 --no-predict --from be --to be");
     assert_eq!(plain, raw);
+    let three = "--row-bytes 9 --channels 1 --width 3 --predict";
+    let raw = [0xFF, 0xFF, 0xFF, 0x02, 0x00, 0x00, 0xFE, 0xFF, 0xFF];
+    let samples = folder.written(&raw, &format!("convert in out {three} --from le --to be"));
+    assert_eq!(samples, [0xFF, 0xFF, 0xFF, 0x00, 0x00, 0x01, 0xFF, 0xFF, 0xFF]);
+    assert_eq!(folder.written(&samples, &format!("forward in out {three} --from be --to le")), raw);
     let in_place = "convert in in --row-bytes 2 --channels 1 --width 1 --predict";
     folder.put("in", &[5, 251, 7, 1]);
     assert_eq!(folder.run(in_place).0, 0);
@@ -144,6 +149,8 @@ fn marks() {
     assert_eq!(folder.get("out"), [0, 1, 1, 1, 0, 0, 0, 0]);
     let picture = folder.written(&map, &format!("{line} --pgm"));
     assert_eq!(picture, b"P5\n4 2\n255\n\x00\xFF\xFF\xFF\x00\x00\x00\x00");
+    let line = "marks in out --row-bytes 9 --channels 1 --width 3 --no-predict";
+    assert_eq!(folder.written(&[0, 0, 0, 0, 0, 1, 0, 0, 0], line), [0, 1, 0]);
 }
 
 /// Above 64 MiB the work is cut into pieces: what comes out is that of one call.
@@ -235,7 +242,7 @@ fn stream_with_a_ragged_end() {
 fn streams_that_are_refused() {
     let folder = Folder::new("stream-refused");
     for (options, status, words) in [
-        ("--row-bytes 7 --channels 3 --width 3", 1, "Unsupported: width 3 is not 1, 2, 4 or 8"),
+        ("--row-bytes 7 --channels 3 --width 5", 1, "Unsupported: width 5 is not 1, 2, 3, 4 or 8"),
         ("--row-bytes 65 --channels 65 --width 1", 1, "Unsupported: channels 65 is not 1 to 64"),
         ("--row-bytes 0 --channels 3 --width 2", 1, "Unsupported: row bytes 0 is not served"),
         ("--row-bytes 7 --channels 3 --width 2", 2, "Invalid: row bytes 7 is no multiple of channels 3 × width 2 (6)"),
@@ -318,9 +325,9 @@ fn refusals_name_the_number() {
     let raw = [0; 12];
     for (line, status, words) in [
         (
-            "convert in out --row-bytes 7 --channels 3 --width 3 --predict --from le --to be",
+            "convert in out --row-bytes 7 --channels 3 --width 5 --predict --from le --to be",
             1,
-            "width 3 is not 1, 2, 4 or 8",
+            "width 5 is not 1, 2, 3, 4 or 8",
         ),
         (
             "forward in out --row-bytes 7 --channels 65 --width 2 --predict --from le --to be",
@@ -644,7 +651,7 @@ fn help_of_each() {
         assert_eq!(text.contains("standard input"), name != "demo", "{text}");
     }
     for (name, served) in [
-        ("convert", "bytes of a sample: 1, 2, 4 or 8; required"),
+        ("convert", "bytes of a sample: 1, 2, 3, 4 or 8; required"),
         ("stream", "which has at most 1073741824 bytes"),
         ("marks", "samples of a pixel, 1 to 64; required"),
         ("swap", "bytes of a group, 1 to 8; required"),

@@ -97,7 +97,7 @@ fn errors_take_no_bytes() {
 
 #[test]
 fn refusals() {
-    let odd = Strip { width: 3, ..STRIP };
+    let odd = Strip { width: 5, ..STRIP };
     assert_eq!(PacketWriter::new(odd, CODING, Vec::new()).unwrap_err(), Refusal::Unsupported);
     let mut inner = Stubborn::default();
     let mut writer = PacketWriter::new(STRIP, CODING, &mut inner).unwrap();

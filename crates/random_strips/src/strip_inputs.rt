@@ -6,12 +6,18 @@ use crate::rng::pick;
 use crate::rng::room;
 use crate::whole::*;
 
-// 1, 2, 4 or 8; where others are served, 1 to 8.
+// 1, 2, 3, 4 or 8; where others are served, 1 to 8.
 fn some_width(call: usize, t: usize) -> usize {
     if call == SWAP || call == BYTE_PLACE {
         plus(1, pick(t, 100, 8))
     } else {
-        power(2, pick(t, 100, 4))
+        match pick(t, 100, 5) {
+            0 => 1,
+            1 => 2,
+            2 => 3,
+            3 => 4,
+            _ => 8,
+        }
     }
 }
 

@@ -3,7 +3,7 @@ use crate::calls::*;
 use crate::whole::*;
 
 pub(crate) fn served(width: usize) -> bool {
-    width == 1 || width == 2 || width == 4 || width == 8
+    width == 1 || width == 2 || width == 3 || width == 4 || width == 8
 }
 
 // The number of a strip's first fault, 0 for none.

@@ -59,7 +59,10 @@ pub(crate) fn alike(raw: &[u8], width: usize, le: bool, start: &[u64], out: &mut
             false => fours_of(raw, width, le, le, start, out),
         }
     } else if width == 1 {
-        fours_of(raw, width, le, le, start, out)
+        match le {
+            true => fours_of(raw, width, le, le, start, out),
+            false => fours_of(raw, width, le, le, start, out),
+        }
     } else {
         fours_of(raw, width, le, le, start, out)
     }
@@ -95,7 +98,10 @@ pub(crate) fn turned(raw: &[u8], width: usize, le: bool, start: &[u64], out: &mu
             false => fours_of(raw, width, le, !le, start, out),
         }
     } else if width == 1 {
-        fours_of(raw, width, le, !le, start, out)
+        match le {
+            true => fours_of(raw, width, le, !le, start, out),
+            false => fours_of(raw, width, le, !le, start, out),
+        }
     } else {
         fours_of(raw, width, le, !le, start, out)
     }

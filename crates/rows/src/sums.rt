@@ -17,7 +17,7 @@ fn sums_of(raw: &[u8], width: usize, le: bool, out_le: bool, start: &[u64], out:
 }
 
 // The samples in the order that the words come in. Every arm is the same call: each knows its width and byte order, and the compiler makes a
-// loop of each, wherever this is called from, as no arm is rarer than one in 32 (docs/DECISIONS.md).
+// loop of each, wherever this is called from, as no arm is rarer than one in 32: so widths are told apart in two halves (docs/DECISIONS.md).
 pub(crate) fn alike(raw: &[u8], width: usize, le: bool, start: &[u64], out: &mut [u8])
     requires { ⌜ HeldFits (now raw) 1 width (now start) (now out) ⌝ }
     ensures { λ r. ⌜ ResumedInto (now (raw .entry)) 1 width le le (now (start .entry)) (now (out .entry)) (now (out .exit)) ⌝ }
@@ -47,7 +47,10 @@ pub(crate) fn alike(raw: &[u8], width: usize, le: bool, start: &[u64], out: &mut
             false => sums_of(raw, width, le, le, start, out),
         }
     } else if width == 1 {
-        sums_of(raw, width, le, le, start, out)
+        match le {
+            true => sums_of(raw, width, le, le, start, out),
+            false => sums_of(raw, width, le, le, start, out),
+        }
     } else {
         sums_of(raw, width, le, le, start, out)
     }
@@ -83,7 +86,10 @@ pub(crate) fn turned(raw: &[u8], width: usize, le: bool, start: &[u64], out: &mu
             false => sums_of(raw, width, le, !le, start, out),
         }
     } else if width == 1 {
-        sums_of(raw, width, le, !le, start, out)
+        match le {
+            true => sums_of(raw, width, le, !le, start, out),
+            false => sums_of(raw, width, le, !le, start, out),
+        }
     } else {
         sums_of(raw, width, le, !le, start, out)
     }

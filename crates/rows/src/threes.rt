@@ -55,7 +55,10 @@ pub(crate) fn alike(raw: &[u8], width: usize, le: bool, start: &[u64], out: &mut
             false => threes_of(raw, width, le, le, start, out),
         }
     } else if width == 1 {
-        threes_of(raw, width, le, le, start, out)
+        match le {
+            true => threes_of(raw, width, le, le, start, out),
+            false => threes_of(raw, width, le, le, start, out),
+        }
     } else {
         threes_of(raw, width, le, le, start, out)
     }
@@ -91,7 +94,10 @@ pub(crate) fn turned(raw: &[u8], width: usize, le: bool, start: &[u64], out: &mu
             false => threes_of(raw, width, le, !le, start, out),
         }
     } else if width == 1 {
-        threes_of(raw, width, le, !le, start, out)
+        match le {
+            true => threes_of(raw, width, le, !le, start, out),
+            false => threes_of(raw, width, le, !le, start, out),
+        }
     } else {
         threes_of(raw, width, le, !le, start, out)
     }

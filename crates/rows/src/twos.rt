@@ -51,7 +51,10 @@ pub(crate) fn alike(raw: &[u8], width: usize, le: bool, start: &[u64], out: &mut
             false => twos_of(raw, width, le, le, start, out),
         }
     } else if width == 1 {
-        twos_of(raw, width, le, le, start, out)
+        match le {
+            true => twos_of(raw, width, le, le, start, out),
+            false => twos_of(raw, width, le, le, start, out),
+        }
     } else {
         twos_of(raw, width, le, le, start, out)
     }
@@ -87,7 +90,10 @@ pub(crate) fn turned(raw: &[u8], width: usize, le: bool, start: &[u64], out: &mu
             false => twos_of(raw, width, le, !le, start, out),
         }
     } else if width == 1 {
-        twos_of(raw, width, le, !le, start, out)
+        match le {
+            true => twos_of(raw, width, le, !le, start, out),
+            false => twos_of(raw, width, le, !le, start, out),
+        }
     } else {
         twos_of(raw, width, le, !le, start, out)
     }

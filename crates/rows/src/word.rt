@@ -1,7 +1,7 @@
 // Words at a place, and sums of them, for each width. A word's bytes are read, and in a function of their own written, in a straight line, the
 // least significant first, and put backwards as a number: so the compiler makes one load, one swap and one store of them, and many at once.
 ghost use mathlib.Core.Path.{_≡_};
-ghost use mathlib.Core.Bool.{true};
+ghost use mathlib.Core.Bool.{true, false};
 ghost use Prim.Native.Nat.{_+_, _%_, _≤_, _<_};
 ghost use lib.ListN.{length};
 ghost use Rattle.words.specs.Word.{wordAt, Within, Put, PutHalves, backwards, modulus, plus, minus};
@@ -52,13 +52,22 @@ fn store2(out: &mut [u8], at: usize, v: u16)
     out[at + 1] = (v / 256 % 256) as u8;
 }
 
+// Two bytes and one: of three the compiler would make three stores.
 fn store3(out: &mut [u8], at: usize, v: u32)
     requires { ⌜ Within at 3 (now out) ⌝ }
     ensures { λ r. ⌜ Put (now (out .entry)) at 3 true v (now (out .exit)) ⌝ }
 {
-    out[at + 0] = (v / 1 % 256) as u8;
-    out[at + 1] = (v / 256 % 256) as u8;
+    store2(out, at, (v % 65536) as u16);
     out[at + 2] = (v / 65536 % 256) as u8;
+}
+
+// The most significant byte first, by itself: then the two behind it are one store.
+fn big3(out: &mut [u8], at: usize, v: u32)
+    requires { ⌜ Within at 3 (now out) ⌝ }
+    ensures { λ r. ⌜ Put (now (out .entry)) at 3 false v (now (out .exit)) ⌝ }
+{
+    out[at + 0] = (v / 65536 % 256) as u8;
+    store2(out, at + 1, words::backwards2((v % 65536) as u16));
 }
 
 fn store4(out: &mut [u8], at: usize, v: u32)
@@ -125,7 +134,7 @@ fn backwards(v: u64, width: usize) -> u64
     } else if width == 2 {
         words::backwards2((v % 65536) as u16) as u64
     } else if width == 3 {
-        words::backwards3((v % 16777216) as u32) as u64
+        words::backwards3((v % 4294967296) as u32) as u64
     } else if width == 4 {
         words::backwards4((v % 4294967296) as u32) as u64
     } else {
@@ -147,6 +156,8 @@ pub(crate) fn put(out: &mut [u8], at: usize, width: usize, le: bool, v: u64)
 {
     if le {
         store(out, at, width, v)
+    } else if width == 3 {
+        big3(out, at, (v % 16777216) as u32)
     } else {
         store(out, at, width, backwards(v, width))
     }

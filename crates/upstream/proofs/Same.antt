@@ -1,5 +1,6 @@
 -- Upstream's definitions and ours are the same, so that what is shown of one holds of the other: layouts and reversal on every input, words and moduli
--- on the widths 1, 2, 4 and 8, samples on good geometry. Elsewhere both refuse, and the definitions need not agree. Assumes nothing.
+-- on the widths 1, 2, 4 and 8, samples on good geometry. At width 3 upstream refuses and ours serves; elsewhere both refuse, and the definitions
+-- need not agree. Assumes nothing.
 use Prim.Native.Nat.{ℕ, zero, suc, _+_, _-_, _*_, _/_, _%_, _≤_, _<_}
 use mathlib.Core.Path.{_≡_, refl, sym, ap, _∙_}
 use mathlib.Core.Bool.{Bool, true, false, not, _||_, or-false, or-true}
@@ -36,16 +37,26 @@ use Rattle.upstream.specs.Native.{word16, word32, digit, widthOk, modulu
 use Rattle.upstream.specs.Layout as Layout
 use Rattle.upstream.specs.Layout.{unequal}
 
--- the widths
-pub width-same : (width : ℕ) → widthOk width ≡ served width
+-- the widths: upstream's, and 3
+pub width-more : (width : ℕ) → served width ≡ (widthOk width || eqb width 3)
 unfolding served
-width-same width = by (eqb width 1) (eqb width 2) (eqb width 4) (eqb width 8)
+width-more width = by (eqb width 1) (eqb width 2) (eqb width 3) (eqb width 4) (eqb width 8)
   where
-    by : (a b c d : Bool) → (a || b || c || d) ≡ (a || (b || (c || (d || false))))
-    by true b c d = refl
-    by false true c d = refl
-    by false false true d = refl
-    by false false false d = sym (or-false d)
+    by : (a b t c d : Bool) → (a || (b || (t || (c || (d || false))))) ≡ (a || b || c || d || t)
+    by true b t c d = refl
+    by false true t c d = refl
+    by false false true c d = sym (or-true (c || d))
+    by false false false true d = refl
+    by false false false false d = refl
+
+pub width-same : (width : ℕ) → (width ≡ 3 → ⊥) → widthOk width ≡ served width
+width-same width other = sym (rw (width-more width, ne-eqb width 3 other) (or-false (widthOk width)))
+
+ok-served : (width : ℕ) → widthOk width ≡ true → served width ≡ true
+ok-served width e = rw (width-more width, e)
+
+ok-other : (width : ℕ) → widthOk width ≡ true → width ≡ 3 → ⊥
+ok-other width e a = let never : widthOk 3 ≡ true = rw a at e in let z : _≡_ {A = ℕ} 0 1 = cc in omega arith
 
 -- words of two and of four bytes
 pub word16-same : (s : List ℕ) (at : ℕ) (le : Bool) → word16 s at le ≡ wordAt s at 2 le
@@ -65,27 +76,29 @@ word-one-two-four : (s : List ℕ) (at : ℕ) (le : Bool) → ((word s at 1 le �
 unfolding word
 word-one-two-four s at le = ((sym (word-one s at le), word16-same s at le), word32-same s at le)
 
--- the word, and the modulus, at each width served
+-- the word, and the modulus, at each of upstream's widths
 pub word-same : (s : List ℕ) (at width : ℕ) (le : Bool) → widthOk width ≡ true → word s at width le ≡ wordAt s at width le
-word-same s at width le e = by (served-one width (sym (width-same width) ∙ e))
+word-same s at width le e = by (served-one width (ok-served width e))
   where
-    by : OneOf width (1 ∷ 2 ∷ 4 ∷ 8 ∷ []) → word s at width le ≡ wordAt s at width le
+    by : OneOf width (1 ∷ 2 ∷ 3 ∷ 4 ∷ 8 ∷ []) → word s at width le ≡ wordAt s at width le
     by (inl a) = rw a (word-one-two-four s at le .0 .0)
     by (inr (inl a)) = rw a (word-one-two-four s at le .0 .1)
-    by (inr (inr (inl a))) = rw a (word-one-two-four s at le .1)
-    by (inr (inr (inr (inl a)))) = rw a (word64-same s at le)
-    by (inr (inr (inr (inr z)))) = absurd z
+    by (inr (inr (inl a))) = absurd (ok-other width e a)
+    by (inr (inr (inr (inl a)))) = rw a (word-one-two-four s at le .1)
+    by (inr (inr (inr (inr (inl a))))) = rw a (word64-same s at le)
+    by (inr (inr (inr (inr (inr z))))) = absurd z
 
 pub modulus-same : (width : ℕ) → widthOk width ≡ true → modulus width ≡ Word.modulus width
 unfolding modulus
-modulus-same width e = by (served-one width (sym (width-same width) ∙ e))
+modulus-same width e = by (served-one width (ok-served width e))
   where
-    by : OneOf width (1 ∷ 2 ∷ 4 ∷ 8 ∷ []) → modulus width ≡ Word.modulus width
+    by : OneOf width (1 ∷ 2 ∷ 3 ∷ 4 ∷ 8 ∷ []) → modulus width ≡ Word.modulus width
     by (inl a) = rw a
     by (inr (inl a)) = rw a
-    by (inr (inr (inl a))) = rw a
+    by (inr (inr (inl a))) = absurd (ok-other width e a)
     by (inr (inr (inr (inl a)))) = rw a
-    by (inr (inr (inr (inr z)))) = absurd z
+    by (inr (inr (inr (inr (inl a))))) = rw a
+    by (inr (inr (inr (inr (inr z))))) = absurd z
 
 -- the digit is one definition, and so is the byte order
 pub digit-same : (v p : ℕ) → digit v p ≡ Digits.digit 256 p v
@@ -150,7 +163,7 @@ outside : (t : Bool) (w x m : ℕ) → (w + pick t 0 x) % m ≡ pick t (w % m) (
 outside true w x m = rw add-zero
 outside false w x m = refl
 
--- samples, on good geometry: channels, a row of words, and a width that is served
+-- samples, on good geometry: channels, a row of words, and a width of upstream's
 module _ (g : Strip) (predict le : Bool) (raw : List ℕ) (ok : widthOk (g .width) ≡ true) (some : 0 < g .channels) (words : 0 < g .row / g .width) where
   first-same : (n : ℕ) → first (g .row / g .width) (g .channels) predict n ≡ alone g predict n
   first-same n =
@@ -176,12 +189,12 @@ module _ (g : Strip) (predict le : Bool) (raw : List ℕ) (ok : widthOk (g .widt
   pub converted-same : (out-le : Bool) (k : ℕ) → converted raw (g .row / g .width) (g .channels) (g .width) le predict out-le k ≡ storedAt (g .width) out-le (Strips.sample g predict le raw) k
   converted-same out-le k = rw (sample-same (k / g .width), ordered-same out-le (g .width) (k % g .width))
 
--- the strip's `valid` holds exactly where our check finds no fault
-pub sound-valid : (raw : List ℕ) (g : Strip) → Sound (stripFaults (length raw) g) → Valid raw (g .row) (g .channels) (g .width)
-sound-valid raw g s =
+-- the strip's `valid` holds exactly where our check finds no fault, but for width 3
+pub sound-valid : (raw : List ℕ) (g : Strip) → (g .width ≡ 3 → ⊥) → Sound (stripFaults (length raw) g) → Valid raw (g .row) (g .channels) (g .width)
+sound-valid raw g other s =
     let good = good-checked (length raw) g s in
     record {
-      width = width-same (g .width) ∙ not-false (served (g .width)) (sound-here s);
+      width = width-same (g .width) other ∙ not-false (served (g .width)) (sound-here s);
       channels = (good .channel, ltb-false 64 (g .channels) (sound-here (sound-rest (sound-rest s))));
       row = good .long;
       groups = good .rows;
@@ -190,15 +203,15 @@ sound-valid raw g s =
 
 pub valid-sound : (raw : List ℕ) (g : Strip) → Valid raw (g .row) (g .channels) (g .width) → Sound (stripFaults (length raw) g)
 valid-sound raw g v =
-    next (held (sym (width-same (g .width)) ∙ v .width))
+    next (held (ok-served (g .width) (v .width)))
     (next (ne-eqb (g .channels) 0 (λ e. omega (arith, v .channels .0)))
     (next (le-ltb 64 (g .channels) (v .channels .1))
     (next (ne-eqb (g .row) 0 (λ e. omega (arith, v .row)))
     (next (held (eq-eqb _ 0 (v .groups)))
     (next (held (eq-eqb _ 0 (v .rows))) none)))))
 
-pub valid-same : (raw : List ℕ) (g : Strip) → Exactly (Sound (stripFaults (length raw) g)) (Valid raw (g .row) (g .channels) (g .width))
-valid-same raw g = (sound-valid raw g, valid-sound raw g)
+pub valid-same : (raw : List ℕ) (g : Strip) → (g .width ≡ 3 → ⊥) → Exactly (Sound (stripFaults (length raw) g)) (Valid raw (g .row) (g .channels) (g .width))
+valid-same raw g other = (sound-valid raw g other, valid-sound raw g)
 
 -- and the layout's exactly where the record check finds none, within rule 5.3's limits
 pub record-sound-valid : (l : RasterLayout) → Sound (Ours.recordFaults l) → LayoutValid l × Within l

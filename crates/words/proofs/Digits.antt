@@ -32,16 +32,18 @@ digit-suc b p v = rw (pow-succ', ← div-div-eq-div-mul)
 digit-zero : (b v : ℕ) → digit b 0 v ≡ v % b
 digit-zero b v = rw (pow-zero, div-one)
 
+-- a number without its first digit is that of the others
+pub value-over : (b n : ℕ) (f : ℕ → ℕ) → f 0 < b → value b (suc n) f / b ≡ value b n (λ p. f (suc p))
+value-over b n f h =
+    let rest = value b n (λ p. f (suc p)) in add-mul-div-left (f 0) rest (omega arith) ∙ omega (arith, div-eq-of-lt h)
+
 -- the digits of the number are those that it is made of
 pub digit-value : (b n : ℕ) (f : ℕ → ℕ) → ((p : ℕ) → p < n → f p < b) → (p : ℕ) → p < n → digit b p (value b n f) ≡ f p
 digit-value b zero f h p l = absurd (omega arith)
 digit-value b (suc n) f h zero l =
     let rest = value b n (λ p. f (suc p)) in digit-zero b (f 0 + b * rest) ∙ add-mul-mod-self-left (f 0) b rest ∙ mod-eq-of-lt (h 0 l)
 digit-value b (suc n) f h (suc p) l =
-    let rest = value b n (λ p. f (suc p)) in
-    let first : f 0 < b = h 0 (omega arith) in
-    let over : (f 0 + b * rest) / b ≡ rest = add-mul-div-left (f 0) rest (omega arith) ∙ omega (arith, div-eq-of-lt first) in
-    digit-suc b p (f 0 + b * rest) ∙ ap (digit b p) over ∙ digit-value b n (λ q. f (suc q)) (λ q m. h (suc q) (omega arith)) p (omega arith)
+    digit-suc b p (value b (suc n) f) ∙ ap (digit b p) (value-over b n f (h 0 (omega arith))) ∙ digit-value b n (λ q. f (suc q)) (λ q m. h (suc q) (omega arith)) p (omega arith)
 
 -- the number of v's first n digits is v modulo b^n
 pub value-digit : (b n v : ℕ) → 0 < b → value b n (λ p. digit b p v) ≡ v % b ^ n

@@ -3,7 +3,7 @@
 use mathlib.Core.Path.{_≡_, refl, sym, ap, _∙_}
 use mathlib.Core.Bool.{Bool, true, false}
 use mathlib.Core.List.{List}
-use Prim.Native.Nat.{ℕ, _+_, _-_, _%_, _<_}
+use Prim.Native.Nat.{ℕ, suc, _+_, _-_, _/_, _%_, _<_}
 use native.Mathlib.Decide.{decLt}
 use native.Mathlib.Nat.{add-zero, div-one, one-le-pow, mod-lt, mod-eq-of-lt, mod-add-mod, add-mod-right, add-comm}
 use native.Mathlib.Omega.{arith}
@@ -11,7 +11,7 @@ use lib.ListN.{getD, drop, length-take, List·getD-eq-default}
 use Rattle.answer.proofs.Filling.{part, part-at}
 use Rattle.words.specs.Digits.{digit}
 use Rattle.words.specs.Word.{ordered, Bytes, wordAt, backwards, modulus, plus, minus}
-use Rattle.words.proofs.Digits.{value-same, value-below, digit-below, digit-value, value-digit}
+use Rattle.words.proofs.Digits.{value-same, value-below, value-over, digit-below, digit-value, value-digit}
 
 pub ordered-below : (le : Bool) (width p : ℕ) → p < width → ordered le width p < width
 ordered-below true width p h = h
@@ -54,6 +54,12 @@ digits-word s at width le v e =
 -- its digits are those of the word, backwards
 pub backwards-digit : (width v p : ℕ) → p < width → digit 256 p (backwards width v) ≡ digit 256 (ordered false width p) v
 backwards-digit width v p h = digit-value 256 width (λ q. digit 256 (ordered false width q) v) (λ q l. digit-below 256 (ordered false width q) v (omega arith)) p h
+
+-- without the last of its bytes it is one byte shorter
+pub backwards-over : (width v : ℕ) → backwards (suc width) v / 256 ≡ backwards width v
+backwards-over width v =
+    value-over 256 width (λ p. digit 256 (ordered false (suc width) p) v) (digit-below 256 (ordered false (suc width) 0) v (omega arith))
+    ∙ value-same 256 width _ _ (λ p h. ap (λ (q : ℕ). digit 256 q v) (omega arith))
 
 -- and is the word of the same bytes in the other order
 pub word-backwards : (s : List ℕ) (at width : ℕ) → Bytes s → backwards width (wordAt s at width true) ≡ wordAt s at width false

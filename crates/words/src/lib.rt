@@ -58,7 +58,7 @@ pub fn join2(a: u8, b: u8) -> u16
 pub fn join3(a: u8, b: u8, c: u8) -> u32
     ensures { λ r. ⌜ Joined (a ∷ b ∷ c ∷ []) r ⌝ }
 {
-    (a as u32) + 256 * (b as u32) + 65536 * (c as u32)
+    (join2(a, b) as u32) + 65536 * (c as u32)
 }
 
 // The word of four bytes, the least significant first.
@@ -86,7 +86,7 @@ pub fn backwards2(v: u16) -> u16
 pub fn backwards3(v: u32) -> u32
     ensures { λ r. ⌜ r ≡ backwards 3 v ⌝ }
 {
-    v % 256 * 65536 + v / 256 % 256 * 256 + v / 65536 % 256
+    backwards4(v) / 256
 }
 
 // Four.

@@ -2,7 +2,7 @@
 
 use crate::lent::Lent;
 use crate::numbers::lend;
-use crate::plain::{self, Flags, INVALID, LIMIT, OUTPUT_TOO_SMALL};
+use crate::plain::{self, Flags, INVALID, LIMIT, OUTPUT_TOO_SMALL, WIDTHS};
 use crate::plain_packets::{self, Numbers, MOST, NUMBERS};
 use crate::random::Random;
 use crate::strips::{self, assert_mixed, coding, flags};
@@ -77,7 +77,7 @@ fn geometry(random: &mut Random) -> Strip {
     if random.below(30) == 0 {
         return strips::geometry(random).0;
     }
-    let width = random.one_of(&[1, 2, 4, 8]);
+    let width = random.one_of(&WIDTHS);
     let channels = match random.below(6) {
         0 => 1 + random.below(64),
         1 => random.one_of(&[63, 64]),
@@ -263,7 +263,7 @@ fn put_together(packets: &Packets, pieces: &[&[u8]]) -> Vec<u8> {
 #[test]
 fn every_pair_of_cuts() {
     let mut random = Random::new(53);
-    for (width, channels) in [1, 2, 4, 8].into_iter().flat_map(|width| [1, 3].map(|channels| (width, channels))) {
+    for (width, channels) in WIDTHS.into_iter().flat_map(|width| [1, 3].map(|channels| (width, channels))) {
         let strip = Strip { row_bytes: 2 * channels * width, channels, width };
         let whole = random.bytes(2 * strip.row_bytes);
         for coding in (0..4).map(|_| coding(flags(&mut random))) {
@@ -283,7 +283,7 @@ fn every_pair_of_cuts() {
 #[test]
 fn packets_of_large_strips() {
     let mut random = Random::new(55);
-    for (width, channels) in [1, 2, 4, 8].into_iter().flat_map(|width| [1, 2, 3, 4, 5, 64].map(|ch| (width, ch))) {
+    for (width, channels) in WIDTHS.into_iter().flat_map(|width| [1, 2, 3, 4, 5, 64].map(|ch| (width, ch))) {
         for pixels in [3, 64, 2_000 / channels] {
             let strip = Strip { row_bytes: channels * width * pixels, channels, width };
             let whole = random.bytes((20_000 / strip.row_bytes + 1) * strip.row_bytes);
@@ -302,7 +302,7 @@ fn packets_of_large_strips() {
 #[test]
 fn the_most_bytes_of_a_strip() {
     let mut random = Random::new(54);
-    for (width, left) in [1, 2, 4, 8].into_iter().flat_map(|width| (0..=20).map(move |left| (width, left))) {
+    for (width, left) in WIDTHS.into_iter().flat_map(|width| (0..=20).map(move |left| (width, left))) {
         let strip = Strip { row_bytes: 2 * width, channels: 1, width };
         let mut state = start_case(strip, flags(&mut random)).1;
         state[6] = MOST - left as u64;

@@ -27,8 +27,11 @@ pub fn digits(value: u128, width: usize, order: ByteOrder) -> Vec<u8> {
     }
 }
 
+/// Bytes of a word that are served.
+pub const WIDTHS: [usize; 5] = [1, 2, 3, 4, 8];
+
 pub fn read_word(s: &[u8], at: usize, width: usize, order: ByteOrder) -> Result<u64, u32> {
-    if ![1, 2, 4, 8].contains(&width) {
+    if !WIDTHS.contains(&width) {
         return Err(UNSUPPORTED);
     }
     if at as u128 + width as u128 > s.len() as u128 {
@@ -46,7 +49,7 @@ pub fn load(s: &[u8], i: usize, wide: bool, order: ByteOrder) -> Result<u32, u32
 }
 
 pub fn check_strip(length: usize, s: Strip) -> Result<(), u32> {
-    let served = matches!(s.width, 1 | 2 | 4 | 8) && s.channels >= 1 && s.channels <= 64 && s.row_bytes != 0;
+    let served = WIDTHS.contains(&s.width) && s.channels >= 1 && s.channels <= 64 && s.row_bytes != 0;
     if !served {
         Err(UNSUPPORTED)
     } else if s.row_bytes % (s.channels * s.width) != 0 || length % s.row_bytes != 0 {

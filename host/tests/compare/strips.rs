@@ -30,7 +30,7 @@ struct Case {
 
 /// A geometry and a length that are mostly served, and often a little wrong.
 pub fn geometry(random: &mut Random) -> (Strip, usize) {
-    let width = if random.below(5) == 0 { random.below(10) } else { random.one_of(&[1, 2, 4, 8]) };
+    let width = if random.below(5) == 0 { random.below(10) } else { random.one_of(&plain::WIDTHS) };
     let channels = if random.flag() { random.one_of(&CHANNELS) } else { 1 + random.below(5) };
     let pixels = if random.below(8) == 0 { random.below(90) } else { random.below(7) };
     let row_bytes = match random.below(10) {
@@ -172,7 +172,7 @@ fn edges_of_every_geometry() {
 fn forward_and_convert_undo_each_other() {
     let mut random = Random::new(12);
     for _ in 0..5_000 {
-        let (width, channels) = (random.one_of(&[1, 2, 4, 8]), 1 + random.below(64));
+        let (width, channels) = (random.one_of(&plain::WIDTHS), 1 + random.below(64));
         let row_bytes = width * channels * (1 + random.below(6));
         let strip = Strip { row_bytes, channels, width };
         let length = row_bytes * random.below(4);
@@ -203,7 +203,7 @@ fn changed(before: &[u8], after: &[u8], strip: Strip, coding: Coding) -> Vec<boo
 fn marks_are_what_damaged_bytes_can_change() {
     let mut random = Random::new(14);
     for _ in 0..1_500 {
-        let (width, channels) = (random.one_of(&[1, 2, 4, 8]), 1 + random.below(4));
+        let (width, channels) = (random.one_of(&plain::WIDTHS), 1 + random.below(4));
         let strip = Strip { row_bytes: width * channels * (1 + random.below(5)), channels, width };
         let raw = {
             let length = strip.row_bytes * (1 + random.below(3));

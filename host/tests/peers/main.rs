@@ -1,10 +1,14 @@
 //! Files that tifffile, Pillow and libtiff write, and what each reads of its own, held against [`hamrisk::picture`]: a
 //! few that are kept in `tests/files`, and fresh ones of `make.py` where the three are installed. There they also read
-//! files that we write, by `read.py`.
+//! files that we write, by `read.py`; and strips of three-byte words, which none of them reads, are numpy's, by `depth.py`.
 
-use hamrisk::ByteOrder::Little;
-use hamrisk::{advised_rows_per_strip, check_layout, picture, rendered, samples, written_file, Layout, Refusal};
+use hamrisk::ByteOrder::{Big, Little};
+use hamrisk::{
+    advised_rows_per_strip, check_layout, converted, forwarded, picture, rendered, samples, written_file, Coding,
+    Layout, PacketWriter, Refusal, Strip,
+};
 use std::fs;
+use std::io::Write;
 use std::path::{Path, PathBuf};
 use std::process::Command;
 
@@ -162,4 +166,35 @@ fn files_that_we_write() {
         assert_eq!(compare(folder).len(), 55);
         assert_eq!(said, "tifffile 55 pillow 40 libtiff 55\n");
     });
+}
+
+/// Strips of five rows and what numpy makes of them: each is converted, whole and in packets that cut words, and forward
+/// prediction gives it back.
+#[test]
+fn depth_words_of_three_bytes() {
+    run_script(
+        "depth.py",
+        |_| (),
+        |folder, said| {
+            // of 20 predicted strips every row
+            assert_eq!(said, "100\n");
+            for (order, to) in [("le", "le"), ("le", "be"), ("be", "le"), ("be", "be")] {
+                for channels in 1..=5 {
+                    for (how, predict) in [("predicted", true), ("plain", false)] {
+                        let path = folder.join(format!("{order}-{to}-{channels}-{how}.raw"));
+                        let (raw, expected) =
+                            (fs::read(&path).unwrap(), fs::read(path.with_extension("samples")).unwrap());
+                        let strip = Strip { row_bytes: raw.len() / 5, channels, width: 3 };
+                        let [from, to] = [order, to].map(|order| if order == "le" { Little } else { Big });
+                        let coding = Coding { from, to, predict };
+                        assert!(converted(&raw, strip, coding).as_ref() == Ok(&expected), "{path:?}");
+                        assert!(forwarded(&expected, strip, coding.back()).as_ref() == Ok(&raw), "{path:?} back");
+                        let mut writer = PacketWriter::new(strip, coding, Vec::new()).unwrap();
+                        raw.chunks(100).for_each(|packet| writer.write_all(packet).unwrap());
+                        assert!(writer.finish().unwrap() == expected, "{path:?} in packets");
+                    }
+                }
+            }
+        },
+    );
 }

@@ -20,7 +20,7 @@ backwards-spec =
     (tie.spec
     (λ c. search needs) (λ c κs. search needs) (λ c. search needs) (λ c. search needs) (λ c κs. search needs) (λ c. search needs) (λ c. search needs) (λ c κs. search needs) (λ c. search needs) (λ c κs. search needs)
     (λ c. rw (c .if1 .taken) (omega arith))
-    (λ c. rw (c .before .if2 .taken) (c .backwards2 .ensures ∙ backwards-rest 2 (c .before .before .before .args .v)))
-    (λ c. rw (c .before .if3 .taken) (c .backwards3 .ensures ∙ backwards-rest 3 (c .before .before .before .before .args .v)))
-    (λ c. rw (c .before .if4 .taken) (c .backwards4 .ensures ∙ backwards-rest 4 (c .before .before .before .before .before .args .v)))
+    (λ c. rw (c .before .if2 .taken) (c .backwards2 .ensures ∙ backwards-rest 2 2 (c .before .before .before .args .v) (omega arith)))
+    (λ c. rw (c .before .if3 .taken) (c .backwards3 .ensures ∙ backwards-rest 3 4 (c .before .before .before .before .args .v) (omega arith)))
+    (λ c. rw (c .before .if4 .taken) (c .backwards4 .ensures ∙ backwards-rest 4 4 (c .before .before .before .before .before .args .v) (omega arith)))
     (λ c. rw (eight (c .before)) (c .backwards8 .ensures)))
