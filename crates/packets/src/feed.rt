@@ -6,21 +6,19 @@ ghost use Prim.Native.Nat.{_/_, _%_, _≤_};
 ghost use Rattle.words.specs.Promises.{served};
 ghost use Rattle.packets.specs.Steps.{Cleared, HoldFits, Held, RowWords, RowsWords, Across, Predicted, OneWord, WordsFeed, WordsFed, FromWord, missing, Finishes, BytesFeed, BytesFed};
 
-// The words of so many bytes, and the bytes past them. With a constant width neither is a division.
+// The words of so many bytes, and the bytes past them. Neither divides by a variable: a width that is not 3 is a power of two.
 pub(crate) fn whole(n: usize, width: usize) -> usize
     requires { ⌜ served width ≡ true ⌝ }
     ensures { λ r. ⌜ r ≡ n / width ⌝ }
 {
-    if width == 1 {
+    if 3 < width {
+        if width == 4 { n / 4 } else { n / 8 }
+    } else if width == 1 {
         n
     } else if width == 2 {
         n / 2
-    } else if width == 3 {
-        n / 3
-    } else if width == 4 {
-        n / 4
     } else {
-        n / 8
+        n / 3
     }
 }
 
@@ -28,17 +26,7 @@ pub(crate) fn past(n: usize, width: usize) -> usize
     requires { ⌜ served width ≡ true ⌝ }
     ensures { λ r. ⌜ r ≡ n % width ⌝ }
 {
-    if width == 1 {
-        0
-    } else if width == 2 {
-        n % 2
-    } else if width == 3 {
-        n % 3
-    } else if width == 4 {
-        n % 4
-    } else {
-        n % 8
-    }
+    if width == 3 { n % 3 } else { n & (width - 1) }
 }
 
 fn clear(sums: &mut [u64])

@@ -233,6 +233,15 @@ module _ {raw : List ℕ} {first channels width : ℕ} {le out-le : Bool} {start
     sums = sym (ap (λ (o : Outcome (Unit {0})). instead o (sumsAfter first channels width (wordOf width le raw) start (length raw / width)) start) (first-refused tt r));
   }
 
+  pub resume-none : Sound (resumeFaults raw first channels width start old) → length raw ≡ 0 → RowResumed raw first channels width le out-le start old Done-is.Done start old
+  resume-none s none =
+      let words = wordOf width le raw in
+      let same : sumsAfter first channels width words start (length raw / width) ≡ start = rw (none, zero-div width) in
+      record {
+        writes = finishes (resumeFaults raw first channels width start old) tt (length raw) _ old old s (rw none);
+        sums = sym (ap (λ (o : Outcome (Unit {0})). instead o (sumsAfter first channels width words start (length raw / width)) start) (sound-done tt s) ∙ same);
+      }
+
   pub resume-done : {after front : List ℕ} → Sound (resumeFaults raw first channels width start old) → RanInto raw first channels width le out-le start after front → RowResumed raw first channels width le out-le start old Done-is.Done after (halfway (length raw) old front)
   resume-done {after} {front} s is = record {
     writes = finishes (resumeFaults raw first channels width start old) tt (length raw) _ old _ s (front-filled _ (length raw) old front (is .wrote ∙ rw (sub-zero (length raw)) (table-same (length raw) _ _ (λ k h. ap (resumedAt raw first channels width le out-le start) (sym (zero-add k))))));

@@ -196,6 +196,10 @@ pub fn resume_row(
     if out.len() < raw.len() {
         return Done::Refused(Refusal::OutputTooSmall);
     }
+    // behind a test more the compiler holds the rest to be rare, and leaves it a call of its own
+    if raw.len() == 0 {
+        return Done::Done;
+    }
     let start: usize = 0;
     let end = raw.len();
     resume::run(

@@ -88,21 +88,24 @@ fn store8(out: &mut [u8], at: usize, v: u64)
     store4(out, at + 4, (v / 4294967296) as u32);
 }
 
-// The word of a width at a place, the least significant byte first. With a constant width the compiler keeps one arm, here and below.
+// The word of a width at a place, the least significant byte first. With a constant width the compiler keeps one arm, here and below;
+// of a variable's tests, told apart in two halves, it makes no jump through a table.
 fn little(s: &[u8], at: usize, width: usize) -> u64
     requires { ⌜ (served width ≡ true) × (at + width ≤ length (now s)) ⌝ }
     ensures { λ r. ⌜ r ≡ wordAt (now (s .entry)) at width true ⌝ }
 {
-    if width == 1 {
+    if 3 < width {
+        if width == 4 {
+            little4(s, at) as u64
+        } else {
+            little8(s, at)
+        }
+    } else if width == 1 {
         s[at] as u64
     } else if width == 2 {
         little2(s, at) as u64
-    } else if width == 3 {
-        little3(s, at) as u64
-    } else if width == 4 {
-        little4(s, at) as u64
     } else {
-        little8(s, at)
+        little3(s, at) as u64
     }
 }
 
@@ -111,16 +114,18 @@ fn store(out: &mut [u8], at: usize, width: usize, v: u64)
     requires { ⌜ (served width ≡ true) × (at + width ≤ length (now out)) ⌝ }
     ensures { λ r. ⌜ Put (now (out .entry)) at width true v (now (out .exit)) ⌝ }
 {
-    if width == 1 {
+    if 3 < width {
+        if width == 4 {
+            store4(out, at, (v % 4294967296) as u32)
+        } else {
+            store8(out, at, v)
+        }
+    } else if width == 1 {
         out[at + 0] = (v / 1 % 256) as u8;
     } else if width == 2 {
         store2(out, at, (v % 65536) as u16)
-    } else if width == 3 {
-        store3(out, at, (v % 16777216) as u32)
-    } else if width == 4 {
-        store4(out, at, (v % 4294967296) as u32)
     } else {
-        store8(out, at, v)
+        store3(out, at, (v % 16777216) as u32)
     }
 }
 
@@ -129,16 +134,18 @@ fn backwards(v: u64, width: usize) -> u64
     requires { ⌜ served width ≡ true ⌝ }
     ensures { λ r. ⌜ r ≡ backwards width v ⌝ }
 {
-    if width == 1 {
+    if 3 < width {
+        if width == 4 {
+            words::backwards4((v % 4294967296) as u32) as u64
+        } else {
+            words::backwards8(v)
+        }
+    } else if width == 1 {
         v % 256
     } else if width == 2 {
         words::backwards2((v % 65536) as u16) as u64
-    } else if width == 3 {
-        words::backwards3((v % 4294967296) as u32) as u64
-    } else if width == 4 {
-        words::backwards4((v % 4294967296) as u32) as u64
     } else {
-        words::backwards8(v)
+        words::backwards3((v % 4294967296) as u32) as u64
     }
 }
 
@@ -167,16 +174,18 @@ pub(crate) fn add(a: u64, b: u64, width: usize) -> u64
     requires { ⌜ served width ≡ true ⌝ }
     ensures { λ r. ⌜ r ≡ plus width a b ⌝ }
 {
-    if width == 1 {
+    if 3 < width {
+        if width == 4 {
+            std::num::wrapping_add_u64(a, b) % 4294967296
+        } else {
+            std::num::wrapping_add_u64(a, b)
+        }
+    } else if width == 1 {
         std::num::wrapping_add_u64(a, b) % 256
     } else if width == 2 {
         std::num::wrapping_add_u64(a, b) % 65536
-    } else if width == 3 {
-        std::num::wrapping_add_u64(a, b) % 16777216
-    } else if width == 4 {
-        std::num::wrapping_add_u64(a, b) % 4294967296
     } else {
-        std::num::wrapping_add_u64(a, b)
+        std::num::wrapping_add_u64(a, b) % 16777216
     }
 }
 
@@ -184,16 +193,18 @@ pub(crate) fn sub(a: u64, b: u64, width: usize) -> u64
     requires { ⌜ (served width ≡ true) × (b < modulus width) ⌝ }
     ensures { λ r. ⌜ r ≡ minus width a b ⌝ }
 {
-    if width == 1 {
+    if 3 < width {
+        if width == 4 {
+            std::num::wrapping_sub_u64(a, b) % 4294967296
+        } else {
+            std::num::wrapping_sub_u64(a, b)
+        }
+    } else if width == 1 {
         std::num::wrapping_sub_u64(a, b) % 256
     } else if width == 2 {
         std::num::wrapping_sub_u64(a, b) % 65536
-    } else if width == 3 {
-        std::num::wrapping_sub_u64(a, b) % 16777216
-    } else if width == 4 {
-        std::num::wrapping_sub_u64(a, b) % 4294967296
     } else {
-        std::num::wrapping_sub_u64(a, b)
+        std::num::wrapping_sub_u64(a, b) % 16777216
     }
 }
 
@@ -205,20 +216,10 @@ pub(crate) fn sum(raw: &[u8], at: usize, width: usize, le: bool, so_far: u64) ->
     add(get(raw, at, width, le), so_far, width)
 }
 
-// The bytes of so many that are past whole words: no division, as no width is a variable.
+// The bytes of so many that are past whole words. No division by a variable: a width that is not 3 is a power of two.
 pub(crate) fn past(n: usize, width: usize) -> usize
     requires { ⌜ served width ≡ true ⌝ }
     ensures { λ r. ⌜ r ≡ n % width ⌝ }
 {
-    if width == 1 {
-        0
-    } else if width == 2 {
-        n % 2
-    } else if width == 3 {
-        n % 3
-    } else if width == 4 {
-        n % 4
-    } else {
-        n % 8
-    }
+    if width == 3 { n % 3 } else { n & (width - 1) }
 }

@@ -257,7 +257,8 @@ fn the_cases_of_the_rules() {
     for (raw, geometry, refusal) in [
         (&[0; 64][..], strip(64, 65, 1), plain::UNSUPPORTED),
         (&[0; 64], strip(64, 0, 1), plain::UNSUPPORTED),
-        (&[0; 7], strip(7, 1, 3), plain::UNSUPPORTED),
+        (&[0; 7], strip(7, 1, 5), plain::UNSUPPORTED),
+        (&[0; 7], strip(7, 1, 3), plain::INVALID),
         (&[0; 7], strip(6, 3, 2), plain::INVALID),
         (&[0; 64], strip(64, 64, 1), plain::OUTPUT_TOO_SMALL),
     ] {

@@ -13,7 +13,7 @@ use Rattle.answer.proofs.Filling.{part, length-part}
 use Rattle.words.specs.Promises.{served}
 use Rattle.laws.proofs.Faults.{Past, past-none, past-one}
 use Rattle.rows.specs.Resume.{resumeFaults, RunFits}
-use Rattle.rows.proofs.Joining.{resume-refused, resume-done}
+use Rattle.rows.proofs.Joining.{resume-refused, resume-none, resume-done}
 use Rattle.rows.proofs.resume_row.Statement.{statement}
 use Rattle.rows.proofs.resume_row.Tie as tie
 
@@ -76,8 +76,9 @@ resume-row-spec =
     (λ c κs. allowed (c .before .before .before))
     (λ c. resume-refused (past4 (c .before .before) .first (here (ap not (ne-eqb _ _ (λ e. c .if5 .taken (c .before .past .ensures ∙ e)))))))
     (λ c. resume-refused (past5 (c .before) .first (here (lt-ltb (length (now (start1 (c .before .before .before .before .before .before) .args .out))) _ (c .if6 .taken)))))
+    (λ c. resume-none (sound (c .before)) (c .if7 .taken))
     (λ c. search needs) (λ c. search needs) (λ c. search needs)
-    (λ c κs. fits (c .before .before))
+    (λ c κs. fits (c .before .before .before))
     (λ c. search needs)
     (λ c. search needs)
-    (λ c. let gone = c .before .before .before .before in resume-done (sound (gone .before .before .before)) (gone .run .ensures)))
+    (λ c. let gone = c .before .before .before .before in let some = gone .before .before .before in resume-done (sound (some .before)) (gone .run .ensures)))
