@@ -196,7 +196,6 @@ pub fn resume_row(
     if out.len() < raw.len() {
         return Done::Refused(Refusal::OutputTooSmall);
     }
-    // behind a test more the compiler holds the rest to be rare, and leaves it a call of its own
     if raw.len() == 0 {
         return Done::Done;
     }
