@@ -1,0 +1,70 @@
+-- What the crate's own functions need and answer. Assumes nothing.
+use Prim.Native.Nat.{ℕ, _+_, _-_, _≤_}
+use mathlib.Core.Path.{_≡_}
+use mathlib.Core.Bool.{true}
+use mathlib.Core.List.{List, [], _∷_, _++_}
+use lib.ListN.{length, take, drop}
+use lib.Dec.{eqb, ltb}
+use Rattle.answer.specs.Outcome.{Fault, Sound, outputTooSmall, pick}
+use Rattle.packbits.specs.Rows.{Packet, packetFaults, packetBytes, rowFaults, rowBytes}
+use Rattle.packbits.specs.Plans.{Planned, planOf, kept, keeps, packetOf, planBytes, literalsOf, plainPlan}
+
+-- the packet at a place of the input
+abbrev pub begun : List ℕ → ℕ → ℕ → Packet
+begun packed at left = record { input = drop at packed; left = left }
+
+-- a buffer into which bytes were put from a place on
+abbrev pub putAt : ℕ → List ℕ → List ℕ → List ℕ
+putAt to bytes old = take to old ++ (bytes ++ drop (to + length bytes) old)
+
+-- one packet into a row, and all of them
+pub record PacketFits (packed : List ℕ) (at : ℕ) (row : List ℕ) (from : ℕ) : Type 0 where
+  pub inside : at ≤ length packed
+  pub within : from ≤ length row
+  pub sound : Sound (packetFaults (begun packed at (length row - from)))
+
+abbrev pub PacketPut : List ℕ → ℕ → List ℕ → ℕ → List ℕ → Type 0
+PacketPut packed at old from new = new ≡ putAt from (packetBytes (begun packed at (length old - from))) old
+
+abbrev pub RowFits : List ℕ → List ℕ → Type 0
+RowFits packed row = Sound (rowFaults packed (length row))
+
+abbrev pub RowFilled : List ℕ → List ℕ → List ℕ → Type 0
+RowFilled packed old new = new ≡ rowBytes packed (length old)
+
+-- the bytes of a planned packet, and of a plan
+abbrev pub packetLength : Planned → ℕ
+packetLength p = pick (eqb (p .kind) 0) (p .bytes + 1) 2
+
+abbrev pub planLength : List Planned → ℕ
+planLength [] = 0
+planLength (p ∷ plan) = packetLength p + planLength plan
+
+abbrev pub roomFaults : ℕ → List Planned → List Fault
+roomFaults room plan = outputTooSmall (ltb room (planLength plan)) ∷ []
+
+-- one planned packet into the output, and all of them
+abbrev pub Literal : ℕ → Planned
+Literal n = record { kind = 0; bytes = n }
+
+pub record PlannedFits (row : List ℕ) (at : ℕ) (p : Planned) (out : List ℕ) (to : ℕ) : Type 0 where
+  pub inside : at ≤ length row
+  pub keeps-rules : kept (drop at row) p ≡ true
+  pub room : to + packetLength p ≤ length out
+
+abbrev pub PlannedPut : List ℕ → ℕ → Planned → List ℕ → ℕ → List ℕ → Type 0
+PlannedPut row at p old to new = new ≡ putAt to (packetOf (drop at row) p) old
+
+pub record PlanFits (row kinds lengths out : List ℕ) : Type 0 where
+  pub paired : length kinds ≡ length lengths
+  pub keeps-rules : keeps row (planOf kinds lengths) ≡ true
+  pub room : planLength (planOf kinds lengths) ≤ length out
+
+abbrev pub PlanPut : List ℕ → List ℕ → List ℕ → List ℕ → List ℕ → Type 0
+PlanPut row kinds lengths old new = new ≡ putAt 0 (planBytes row (planOf kinds lengths)) old
+
+abbrev pub LiteralsFit : List ℕ → List ℕ → Type 0
+LiteralsFit row out = length row + literalsOf (length row) ≤ length out
+
+abbrev pub LiteralsPut : List ℕ → List ℕ → List ℕ → Type 0
+LiteralsPut row old new = new ≡ putAt 0 (planBytes row (plainPlan row)) old
