@@ -62,8 +62,8 @@ finishes-with {A} fs {a} {b} w {old} s e put =
 pub put-length : (to : ℕ) (bytes old : List ℕ) → to + length bytes ≤ length old → length (putAt to bytes old) ≡ length old
 put-length to bytes old h =
     length-append (take to old) (bytes ++ drop (to + length bytes) old)
-        ∙ ap (λ (n : ℕ). length (take to old) + n) (length-append bytes (drop (to + length bytes) old))
-        ∙ omega (arith, length-take-le to old (omega arith), length-drop (to + length bytes) old)
+    ∙ ap (λ (n : ℕ). length (take to old) + n) (length-append bytes (drop (to + length bytes) old))
+    ∙ omega (arith, length-take-le to old (omega arith), length-drop (to + length bytes) old)
 
 -- a buffer into which a front of the whole was put, so that the rest goes in from `to` on
 pub record Upto (whole rest old : List ℕ) (to : ℕ) (out : List ℕ) : Type 0 where
@@ -98,15 +98,15 @@ upto-end {whole} {old} {out} {to} u =
 pub put-part : (row : List ℕ) (from to : ℕ) {new bytes : List ℕ} → new ≡ bytes → from ≤ to → length bytes ≡ to - from → take from row ++ (new ++ drop (to - from) (drop from row)) ≡ putAt from bytes row
 put-part row from to {new} {bytes} e h long =
     ap (λ (l : List ℕ). take from row ++ (l ++ drop (to - from) (drop from row))) e
-        ∙ ap (λ (l : List ℕ). take from row ++ (bytes ++ l)) (drop-drop (to - from) from row ∙ ap (λ (n : ℕ). drop (from + n) row) (sym long))
+    ∙ ap (λ (l : List ℕ). take from row ++ (bytes ++ l)) (drop-drop (to - from) from row ∙ ap (λ (n : ℕ). drop (from + n) row) (sym long))
 
 -- a copy that fills all of its buffer
 pub copied : (source old new : List ℕ) (a : Done) → Committed source old a new → length source ≡ length old → new ≡ source
 copied source old new a p long =
     finished (commitFaults source old) tt (length source) (λ k. getD source k 0) old new (next (le-ltb (length old) (length source) (omega arith)) none) p
-        ∙ ap (λ (l : List ℕ). l ++ drop (length source) old) (table-self source)
-        ∙ ap (λ (l : List ℕ). source ++ l) (drop-of-length-le old {i = length source} (omega arith))
-        ∙ append-nil source
+    ∙ ap (λ (l : List ℕ). l ++ drop (length source) old) (table-self source)
+    ∙ ap (λ (l : List ℕ). source ++ l) (drop-of-length-le old {i = length source} (omega arith))
+    ∙ append-nil source
 
 -- a byte, and bytes behind it
 pub put-after : (out : List ℕ) (to v : ℕ) (bytes : List ℕ) → to < length out → putAt (to + 1) bytes (set out to v) ≡ putAt to (v ∷ bytes) out
@@ -115,8 +115,8 @@ put-after out to v bytes h =
     let span : to + 1 + length bytes ≡ to + suc (length bytes) = omega arith in
     let back : drop (to + 1 + length bytes) (set out to v) ≡ drop (to + suc (length bytes)) out = drop-set-lt (to + 1 + length bytes) out to v (omega arith) ∙ ap (λ (n : ℕ). drop n out) span in
     ap (λ (l : List ℕ). l ++ (bytes ++ drop (to + 1 + length bytes) (set out to v))) front
-        ∙ append-assoc (take to out) (v ∷ []) (bytes ++ drop (to + 1 + length bytes) (set out to v))
-        ∙ ap (λ (l : List ℕ). take to out ++ (v ∷ (bytes ++ l))) back
+    ∙ append-assoc (take to out) (v ∷ []) (bytes ++ drop (to + 1 + length bytes) (set out to v))
+    ∙ ap (λ (l : List ℕ). take to out ++ (v ∷ (bytes ++ l))) back
 
 pub put-two : (out : List ℕ) (to a b : ℕ) → to + 2 ≤ length out → set (set out to a) (to + 1) b ≡ putAt to (a ∷ b ∷ []) out
 put-two out to a b h =

@@ -94,7 +94,7 @@ begins p more = rw (ne-eqb (p .left) 0 (λ e. omega arith))
 pub goes-on : (p : Packet) → 0 < p .left → 0 < length (p .input) → packets p ≡ p ∷ packets (behind p)
 goes-on p more there =
     begins p more
-        ∙ ap (λ (l : List Packet). p ∷ l) (rw (ne-eqb (length (p .input)) 0 (λ e. omega arith)) (enough (length (p .input)) (suc (length (behind p .input))) (behind p) (rw (length-drop (takes (header p)) (p .input)) (omega (arith, takes-some (header p)))) (omega arith)))
+    ∙ ap (λ (l : List Packet). p ∷ l) (rw (ne-eqb (length (p .input)) 0 (λ e. omega arith)) (enough (length (p .input)) (suc (length (behind p .input))) (behind p) (rw (length-drop (takes (header p)) (p .input)) (omega (arith, takes-some (header p)))) (omega arith)))
 
 -- the packet behind the one at a place
 pub header-at : (packed : List ℕ) (at left : ℕ) → header (begun packed at left) ≡ getD packed at 0
@@ -103,7 +103,7 @@ header-at packed at left = getD-drop at packed 0 0 ∙ ap (λ (n : ℕ). getD pa
 behind-at : (packed : List ℕ) (at left : ℕ) → let h = getD packed at 0 in behind (begun packed at left) ≡ begun packed (at + takes h) (left - fills h)
 behind-at packed at left =
     ap (λ (h : ℕ). record { input = drop (takes h) (drop at packed); left = left - fills h }) (header-at packed at left)
-        ∙ ap (λ (l : List ℕ). record { input = l; left = left - fills (getD packed at 0) }) (drop-drop (takes (getD packed at 0)) at packed)
+    ∙ ap (λ (l : List ℕ). record { input = l; left = left - fills (getD packed at 0) }) (drop-drop (takes (getD packed at 0)) at packed)
 
 -- the packet at a place, if it has no fault
 pub record FitsAt (packed : List ℕ) (at left : ℕ) : Type 0 where

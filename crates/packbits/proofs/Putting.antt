@@ -12,10 +12,11 @@ use lib.ListN.{length, getD, take, drop, set, length-set, length-drop, length-ap
 use lib.Seq.{getD-drop, drop-drop, length-take-le}
 use lib.Dec.{eqb, ltb, leb}
 use Rattle.answer.specs.declared.Done.{Done}
-use Rattle.answer.specs.Outcome.{pick}
+use Rattle.answer.specs.Outcome.{Sound, First, here, later, next, none, outputTooSmall, pick}
+use Rattle.laws.proofs.Says.{held}
 use Rattle.transport.specs.Moved.{Committed}
-use Rattle.packbits.specs.Plans.{Planned, planOf, kept, keeps, literalRule, packetOf, planBytes, literals, literalsOf, plainPlan}
-use Rattle.packbits.specs.Parts.{putAt, packetLength, planLength, Literal, PlannedFits, PlannedPut}
+use Rattle.packbits.specs.Plans.{Planned, planOf, kept, keeps, literalRule, packetOf, planBytes, planFaults, packFaults, literals, literalsOf, plainPlan}
+use Rattle.packbits.specs.Parts.{putAt, packetLength, planLength, roomFaults, Literal, PlannedFits, PlannedPut}
 use Rattle.packbits.proofs.Onward.{Upto, upto-none, upto-on, upto-end, put-part, put-length, copied, put-after, put-two}
 use Rattle.packbits.proofs.Planning.{Kept, kept-is, and-left, and-right, plan-from, planned-at, plan-next, plan-end}
 
@@ -33,8 +34,23 @@ plan-long row [] e = refl
 plan-long row (p ∷ plan) e =
     let rest = keeps (drop (p .bytes) row) plan in
     length-append (packetOf row p) (planBytes (drop (p .bytes) row) plan)
-        ∙ ap (λ (n : ℕ). n + length (planBytes (drop (p .bytes) row) plan)) (packet-long row p (kept-is row p (and-left (kept row p) rest e) .inside))
-        ∙ ap (λ (n : ℕ). packetLength p + n) (plan-long (drop (p .bytes) row) plan (and-right (kept row p) rest e))
+    ∙ ap (λ (n : ℕ). n + length (planBytes (drop (p .bytes) row) plan)) (packet-long row p (kept-is row p (and-left (kept row p) rest e) .inside))
+    ∙ ap (λ (n : ℕ). packetLength p + n) (plan-long (drop (p .bytes) row) plan (and-right (kept row p) rest e))
+
+-- a plan's faults, once it is known that it keeps the rules
+module _ (row kinds lengths out : List ℕ) (paired : length kinds ≡ length lengths) (k : keeps row (planOf kinds lengths) ≡ true) where
+  abbrev plan : List Planned
+  plan = planOf kinds lengths
+
+  pub plan-first : {r : ℕ} → First (roomFaults (length out) plan) r → First (planFaults row kinds lengths out) r
+  plan-first {r} f =
+      let last : First (outputTooSmall (ltb (length out) (length (planBytes row plan))) ∷ []) r = rw (plan-long row plan k) f in
+      later (held (eq-eqb (length kinds) (length lengths) paired)) (later (held k) last)
+
+  pub plan-sound : planLength plan ≤ length out → Sound (planFaults row kinds lengths out)
+  plan-sound room =
+      let last : ltb (length out) (length (planBytes row plan)) ≡ false = rw (plan-long row plan k) (le-ltb (length out) (planLength plan) room) in
+      next (held (eq-eqb (length kinds) (length lengths) paired)) (next (held k) (next last none))
 
 -- one packet put into the output: a literal, and a repeat
 module _ (row out : List ℕ) (at to : ℕ) where
@@ -190,3 +206,16 @@ module _ {row out₀ out : List ℕ} {at to : ℕ} (put : PuttingPlain row out�
           room = rw behind (omega (arith, put .room, first));
           upto = rw (behind, ← past) (rw long at (upto-on (packetOf (drop at row) (Literal n)) (rw (literals-next left (omega arith)) at (put .upto)) (rw long (omega (arith, put .room, first))) e));
         }
+
+-- the faults of a row that is packed without a plan
+pub plain-bytes : (row : List ℕ) → length (planBytes row (plainPlan row)) ≡ length row + literalsOf (length row)
+plain-bytes row =
+    let n = length row in plan-long row (plainPlan row) (plain-keeps (literalsOf n) row n refl refl) ∙ plain-long (literalsOf n) n refl
+
+pub pack-first : (row out : List ℕ) → length out < length row + literalsOf (length row) → First (packFaults row out) 4
+pack-first row out h =
+    let short : ltb (length out) (length (planBytes row (plainPlan row))) ≡ true = rw (plain-bytes row) (lt-ltb (length out) (length row + literalsOf (length row)) h) in here short
+
+pub pack-sound : (row out : List ℕ) → length row + literalsOf (length row) ≤ length out → Sound (packFaults row out)
+pack-sound row out h =
+    let long : ltb (length out) (length (planBytes row (plainPlan row))) ≡ false = rw (plain-bytes row) (le-ltb (length out) (length row + literalsOf (length row)) h) in next long none

@@ -1,58 +1,44 @@
+-- `packbits::pack_row` meets its promise: it refuses for want of room alone, and past that writes literals. Assumes nothing.
 use borrow.Author.Needs.{needs}
 use native.Mathlib.Omega.{arith}
-use Prim.Native.Nat.{ℕ, _+_, _-_, _*_, _%_, _≤_, _<_}
-use mathlib.Core.Path.{_≡_, refl, sym, ap, _∙_}
-use mathlib.Core.List.{List, [], _∷_, _++_}
-use lib.ListN.{length, getD, set, take, drop, length-set}
+use Prim.Native.Nat.{_+_, _≤_}
+use mathlib.Core.Path.{sym, ap, _∙_}
+use lib.ListN.{length}
 use denote.Ref.{now}
+use Rattle.answer.proofs.Promised.{refuses}
+use Rattle.packbits.specs.Plans.{literalsOf, plainPlan, planBytes, packFaults}
+use Rattle.packbits.proofs.Onward.{finishes-with}
+use Rattle.packbits.proofs.Putting.{plain-bytes, pack-first, pack-sound}
 use Rattle.packbits.proofs.pack_row.Statement.{statement}
 use Rattle.packbits.proofs.pack_row.Tie as tie
-use Rattle.packbits.proofs.pack_row.Reads as reads
-use Rattle.packbits.proofs.pack_row.Lts as lts
-use Rattle.packbits.proofs.literals_of.Reads as literals-of-reads
-use Rattle.packbits.proofs.writing.put_literals.Reads as put-literals-reads
 
--- src/lib.rt:118:9
-literals-of-requires : tie.Need-literals-of-requires
-literals-of-requires c κs = search needs
+abbrev begun : tie.After-literals-of → tie.Start
+begun c = c .before .before .before
 
--- src/lib.rt:120:9
-returns : tie.Need-returns
-returns c = ?
-
--- src/lib.rt:122:8
-sub-if2 : tie.Need-sub-if2
-sub-if2 c = search needs
-
--- src/lib.rt:123:9
-returns-2 : tie.Need-returns-2
-returns-2 c = ?
-
--- src/lib.rt:125:5
-put-literals-requires : tie.Need-put-literals-requires
-put-literals-requires c κs = search needs
-
--- src/lib.rt:126:20
-add-t5 : tie.Need-add-t5
-add-t5 c = search needs
-
--- src/lib.rt:114:1
-same-length : tie.Need-same-length
-same-length c = search needs
-
--- src/lib.rt:114:1
-returns-3 : tie.Need-returns-3
-returns-3 c = ?
+room : (c : tie.Else2) → let args = begun (c .before .before) .args in let n = length (now (args .row)) in n + literalsOf n ≤ length (now (args .out))
+room c = let count = c .before .before in omega (arith, c .if2 .left, c .before .if1 .left, count .literals-of .ensures)
 
 pub pack-row-spec : {M : Type 1} → statement M
 pack-row-spec =
     tie.close
     (tie.spec
-    literals-of-requires
-    returns
-    sub-if2
-    returns-2
-    put-literals-requires
-    add-t5
-    same-length
-    returns-3)
+    (λ c κs. search needs)
+    (λ c.
+    let args = begun (c .before) .args in
+    refuses (packFaults (now (args .row)) (now (args .out))) _ _ _ (pack-first (now (args .row)) (now (args .out)) (omega (arith, c .if1 .taken))))
+    (λ c. search needs)
+    (λ c.
+    let enough = c .before in
+    let count = enough .before in
+    let args = begun count .args in
+    refuses (packFaults (now (args .row)) (now (args .out))) _ _ _ (pack-first (now (args .row)) (now (args .out)) (omega (arith, c .if2 .taken, enough .if1 .left, count .literals-of .ensures))))
+    (λ c κs. room (c .before))
+    (λ c. let all = c .before .before .before .before in omega (arith, room all, all .before .before .literals-of .ensures))
+    (λ c. search needs)
+    (λ c.
+    let put = c .before .before in
+    let all = put .before .before in
+    let count = all .before .before in
+    let args = begun count .args in
+    let row = now (args .row) in
+    finishes-with (packFaults row (now (args .out))) (planBytes row (plainPlan row)) (pack-sound row (now (args .out)) (room all)) (omega (arith, plain-bytes row, count .literals-of .ensures)) (put .put-literals .ensures)))
