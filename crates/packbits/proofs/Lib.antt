@@ -2,3 +2,6 @@ pub mod Onward
 pub mod Packets
 pub mod Planning
 pub mod Putting
+pub mod Determined
+pub mod Theorems
+pub mod Accepted

@@ -264,11 +264,15 @@ measured-done packed n {a} {m} p e =
     (done-sound (rowFaults packed n) (used packed n) m is, done-value (rowFaults packed n) (used packed n) m is)
 
 -- a packet without a fault, from what was seen of it
-pub sound-at : (packed : List ℕ) (at left : ℕ) → at < length packed → fills (getD packed at 0) ≤ left → at + takes (getD packed at 0) ≤ length packed → Sound (packetFaults (begun packed at left))
+pub sound-packet : (p : Packet) → 0 < length (p .input) → fills (header p) ≤ p .left → takes (header p) ≤ length (p .input) → Sound (packetFaults p)
 unfolding packetFaults
+sound-packet p there passes whole =
+    next (ne-eqb (length (p .input)) 0 (λ e. omega arith)) (next (le-ltb (p .left) (fills (header p)) passes) (next (le-ltb (length (p .input)) (takes (header p)) whole) none))
+
+sound-at : (packed : List ℕ) (at left : ℕ) → at < length packed → fills (getD packed at 0) ≤ left → at + takes (getD packed at 0) ≤ length packed → Sound (packetFaults (begun packed at left))
 sound-at packed at left inside passes whole =
-    rw (length-drop at packed, header-at packed at left)
-    (next (ne-eqb (length packed - at) 0 (λ e. omega arith)) (next (le-ltb left (fills (getD packed at 0)) passes) (next (le-ltb (length packed - at) (takes (getD packed at 0)) (omega arith)) none)))
+    let same = header-at packed at left in
+    sound-packet (begun packed at left) (rw (length-drop at packed) (omega arith)) (rw same passes) (rw (same, length-drop at packed) (omega arith))
 
 -- a look past a packet of which the first byte was seen
 pub looked-past : {packed : List ℕ} {n at left f t : ℕ} → Looked packed n at left → 0 < left → Header (getD packed at 0) f t → at < length packed → f ≤ left → at + t ≤ length packed → Looked packed n (at + t) (left - f)

@@ -51,7 +51,7 @@ pub record Kept (row : List ℕ) (p : Planned) : Type 0 where
   pub inside : p .bytes ≤ length row
   pub some : 1 ≤ p .bytes
   pub few : p .bytes ≤ 128
-  pub repeats : (p .kind ≡ 0 → ⊥) → (2 ≤ p .bytes) × (alike (p .bytes) row ≡ true)
+  pub repeats : (p .kind ≡ 0 → ⊥) → (p .kind ≡ 1) × ((2 ≤ p .bytes) × (alike (p .bytes) row ≡ true))
 
 pub kept-is : (row : List ℕ) (p : Planned) → kept row p ≡ true → Kept row p
 unfolding kept literalRule repeatRule
@@ -76,7 +76,7 @@ kept-is row p e =
           inside = inside-so;
           some = omega arith;
           few = rw is (leb-true n 128 (and-right (leb 2 n) (leb n 128) bounds));
-          repeats = λ o. rw is (two, and-right (leb 2 n && leb n 128) (alike n row) rule);
+          repeats = λ o. (eqb-true (p .kind) 1 (and-left (eqb (p .kind) 1) _ t), rw is (two, and-right (leb 2 n && leb n 128) (alike n row) rule));
         }
 
 -- the plan from a packet on
@@ -106,7 +106,7 @@ module _ (kinds lengths : List ℕ) where
     checked-end h = sym (so-far .rest ∙ ap (keeps (drop at row)) (plan-end k h) ∙ used-up row at (so-far .inside))
 
     module _ (more : k < length kinds) where
-      next-kept : keeps row (planOf kinds lengths) ≡ (kept (drop at row) (planned-at k) && keeps (drop (getD lengths k 0) (drop at row)) (plan-from (k + 1)))
+      pub next-kept : keeps row (planOf kinds lengths) ≡ (kept (drop at row) (planned-at k) && keeps (drop (getD lengths k 0) (drop at row)) (plan-from (k + 1)))
       next-kept = so-far .rest ∙ ap (keeps (drop at row)) (plan-next k more paired)
 
       pub checked-fails : kept (drop at row) (planned-at k) ≡ false → false ≡ keeps row (planOf kinds lengths)

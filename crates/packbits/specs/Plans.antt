@@ -1,11 +1,12 @@
 -- A row that is packed: a plan of packets, the rules that it keeps, and what it writes (rules 17.7 to 17.10). Assumes nothing.
-use Prim.Native.Nat.{ℕ, zero, suc, _+_, _-_, _/_}
+use Prim.Native.Nat.{ℕ, zero, suc, _+_, _-_, _/_, _≤_, _<_}
+use mathlib.Core.Path.{_≡_}
 use mathlib.Core.Bool.{Bool, not, _&&_}
 use mathlib.Core.List.{List, [], _∷_, _++_}
 use lib.ListN.{length, getD, take, drop}
 use lib.Dec.{eqb, ltb, leb}
 use Rattle.answer.specs.Outcome.{Outcome, done, refused, Fault, unless, invalid, outputTooSmall, number, pick, Promise}
-use Rattle.laws.specs.Turns.{every}
+use Rattle.laws.specs.Turns.{every, sum}
 use Rattle.packbits.specs.declared.Packed.{Packed}
 use Rattle.packbits.specs.declared.Packed.the-variants as Packed-is
 
@@ -38,6 +39,19 @@ kept row p =
 abbrev pub keeps : List ℕ → List Planned → Bool
 keeps row [] = eqb (length row) 0
 keeps row (p ∷ plan) = kept row p && keeps (drop (p .bytes) row) plan
+
+-- the same in plain words: packet k has the bytes from where the lengths before it end, and all lengths are the row's
+abbrev pub startOf : List ℕ → ℕ → ℕ
+startOf lengths k = sum k (λ j. getD lengths j 0)
+
+pub data PacketRule (row : List ℕ) (start kind n : ℕ) : Type 0 where
+  literal : kind ≡ 0 → 1 ≤ n → n ≤ 128 → PacketRule row start kind n
+  repeat : kind ≡ 1 → 2 ≤ n → n ≤ 128 → ((j : ℕ) → j < n → getD row (start + j) 0 ≡ getD row start 0) → PacketRule row start kind n
+
+pub record PlanRules (row kinds lengths : List ℕ) : Type 0 where
+  pub paired : length kinds ≡ length lengths
+  pub adds-up : startOf lengths (length kinds) ≡ length row
+  pub each : (k : ℕ) → k < length kinds → PacketRule row (startOf lengths k) (getD kinds k 0) (getD lengths k 0)
 
 -- what a packet is written as, and a plan
 unfoldable pub packetOf : List ℕ → Planned → List ℕ

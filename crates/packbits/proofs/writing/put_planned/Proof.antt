@@ -26,7 +26,7 @@ put-planned-spec =
     (tie.spec
     (λ c κs. let small = c .before in let start = small .before .before .before in rw (small .if1 .taken) at (start .pre))
     (λ c. omega (arith, fit (begun c)))
-    (λ c. let start = begun c in omega (arith, fit start, fit start .repeats (c .if1 .left) .0))
+    (λ c. let start = begun c in omega (arith, fit start, fit start .repeats (c .if1 .left) .1 .0))
     (λ c. omega (arith, room c))
     (λ c. let start = begun (c .before) in omega (arith, fit start, start .pre .inside, length-drop (start .args .at) (now (start .args .row))))
     (λ c. omega (arith, room (c .before)))
