@@ -21,11 +21,12 @@ ghost use Rattle.answer.specs.Outcome.{unless};
 ghost use Rattle.directory.specs.Page.{stripsFaults, foundOutcome, DirectoryRead, StripPlaced, StripCut, StripsPlaced};
 ghost use Rattle.directory.specs.Parts.{pageBy, OnePlaced, PartsPlaced};
 
-// A page: its layout, how its rows were predicted (1: not; 2: by the sample before), and how many strips it has.
+// A page: its layout, how its rows were predicted (1: not; 2: by the sample before), how many strips it has, and how its rows are compressed (1: not; 32773: PackBits).
 pub struct Page {
     pub layout: RasterLayout,
     pub predictor: usize,
     pub strips: usize,
+    pub compression: usize,
 }
 
 // The answer of `read_directory`.
@@ -57,6 +58,7 @@ fn page_by(w: Whole) -> Page
         layout,
         predictor: w.predictor,
         strips,
+        compression: w.compression,
     }
 }
 

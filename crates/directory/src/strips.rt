@@ -5,6 +5,7 @@ use answer::fault;
 use answer::first_of;
 use entries::Field;
 use entries::value;
+use packbits::check_rows;
 use tags::strips_per_plane;
 ghost use mathlib.Core.Path.{_≡_};
 ghost use Prim.Native.Nat.{_+_, _-_, _*_, _%_, _≤_, _<_};
@@ -14,8 +15,9 @@ ghost use Rattle.answer.specs.Outcome.{pick, Step};
 ghost use Rattle.answer.specs.Table.{filled};
 ghost use Rattle.tags.specs.Tags.{stripsPerPlane};
 ghost use Rattle.directory.specs.Page.{smaller, stripPlace, stripLength, stripFaults, stripsFaults, partNumber};
+ghost use Rattle.directory.specs.Parts.{PackedChecked};
 
-// What strips are found by: their places and lengths, the rows of the page and of a strip, and the bytes of a row.
+// What strips are found by: their places and lengths, the rows of the page and of a strip, the bytes of a row, and whether rows are packed.
 pub(crate) struct Strips {
     pub le: bool,
     pub offsets: Field,
@@ -23,6 +25,7 @@ pub(crate) struct Strips {
     pub rows: u32,
     pub each: u32,
     pub row: u32,
+    pub packbits: bool,
 }
 
 // The rows of a strip, which is the turn-th of its plane.
@@ -63,6 +66,17 @@ pub(crate) fn length_of(file: &[u8], s: Strips, k: u32) -> u32
     value(file, s.le, counts, k)
 }
 
+// A strip of packed rows: its length is free, and where it is all there its rows are read.
+fn check_packed(file: &[u8], at: usize, end: usize, rows: u32, row: u32) -> Done
+    requires { ⌜ at ≤ end ⌝ }
+    ensures { λ r. ⌜ PackedChecked (now (file .entry)) at end rows row r ⌝ }
+{
+    if file.len() < end {
+        return Done::Refused(Refusal::Truncated);
+    }
+    check_rows(&file[at..end], rows as usize, row as usize)
+}
+
 // Strip k, which is the turn-th of its plane.
 fn check_turn(file: &[u8], s: Strips, k: u32, turn: u32) -> Done
     requires { ⌜ turn ≡ k % stripsPerPlane (s .rows) (s .each) ⌝ }
@@ -70,7 +84,11 @@ fn check_turn(file: &[u8], s: Strips, k: u32, turn: u32) -> Done
 {
     let at = place_of(file, s, k) as usize;
     let bytes = length_of(file, s, k) as usize;
-    let right = times(rows_at(s.rows, s.each, turn), s.row);
+    let rows = rows_at(s.rows, s.each, turn);
+    let right = times(rows, s.row);
+    if s.packbits {
+        return check_packed(file, at, at + bytes, rows, s.row);
+    }
     first_of(
         fault(bytes != right, Refusal::Invalid),
         fault(file.len() < at + bytes, Refusal::Truncated),
