@@ -66,15 +66,18 @@ stripPart file s k = record { at = stripPlace file s k; bytes = stripLength file
 abbrev pub partOf : List ℕ → Part → List ℕ
 partOf file p = take (p .bytes) (drop (p .at) file)
 
--- the faults of strip k: a length that is not its rows', if they are not packed; no room; and if they are packed, the rows' own
+-- the faults of strip k: its length, which is free if its rows are packed, and room; then, if they are packed, theirs
+abbrev pub partFaults : List ℕ → Strips → ℕ → List Fault
+partFaults file s k =
+    invalid (not (s .packbits) && not (eqb (stripLength file s k) (stripRows (s .rows) (s .each) k * s .row)))
+    ∷ truncated (ltb (length file) (stripPlace file s k + stripLength file s k))
+    ∷ []
+
 abbrev pub packedFaults : List ℕ → Strips → ℕ → List Fault
 packedFaults file s k = rowsFaults (partOf file (stripPart file s k)) (stripRows (s .rows) (s .each) k) (s .row)
 
 unfoldable pub stripFaults : List ℕ → Strips → ℕ → List Fault
-stripFaults file s k =
-    invalid (not (s .packbits) && not (eqb (stripLength file s k) (stripRows (s .rows) (s .each) k * s .row)))
-    ∷ truncated (ltb (length file) (stripPlace file s k + stripLength file s k))
-    ∷ pick (s .packbits) (packedFaults file s k) []
+stripFaults file s k = partFaults file s k ++ pick (s .packbits) (packedFaults file s k) []
 
 -- how many there are: 273's count, which 284's contradiction has held against the rows
 abbrev pub stripCount : List ℕ → Directory → ℕ

@@ -1,14 +1,11 @@
 -- What the crate's own functions need and answer. Assumes nothing.
-use Prim.Native.Nat.{ℕ, _-_, _*_, _<_}
+use Prim.Native.Nat.{ℕ, _*_, _<_}
 use mathlib.Core.Path.{_≡_}
-use mathlib.Core.List.{List, _∷_}
-use lib.ListN.{length}
-use lib.Dec.{ltb}
+use mathlib.Core.List.{List}
 use Rattle.answer.specs.declared.Done.{Done}
-use Rattle.answer.specs.Outcome.{Outcome, done, refused, number, unless, truncated, doneOutcome, Step, Promise}
+use Rattle.answer.specs.Outcome.{Outcome, done, refused, number, unless, doneOutcome, Promise}
 use Rattle.layout.specs.declared.RasterLayout.{RasterLayout}
 use Rattle.layout.specs.Layout.{completed}
-use Rattle.packbits.specs.Rows.{rowsFaults}
 use Rattle.entries.specs.Entries.{directory}
 use Rattle.tags.specs.declared.Tags.{Tags}
 use Rattle.tags.specs.Tags.{tagsOf}
@@ -18,7 +15,7 @@ use Rattle.directory.specs.declared.pages.Opening.{Opening}
 use Rattle.directory.specs.declared.pages.Opening.the-variants as Opening-is
 use Rattle.directory.specs.declared.Page.{Page}
 use Rattle.directory.specs.declared.Place.{Place}
-use Rattle.directory.specs.Page.{pageFaults, stripsBy, partOf, oneFaults, stripPart, placeOutcome, partsFaults, partsOf}
+use Rattle.directory.specs.Page.{pageFaults, stripsBy, oneFaults, stripPart, placeOutcome, partsFaults, partsOf}
 
 -- the bytes of a row of a layout that was accepted
 abbrev pub SmallRow : RasterLayout → Type 0
@@ -39,11 +36,6 @@ PageOpened file page answer = openingOutcome answer ≡ unless (pageFaults file 
 abbrev pub pageBy : Whole → Page
 pageBy w =
     record { layout = w .layout; predictor = w .predictor; strips = w .strips .offsets .count; compression = w .compression }
-
--- a strip of packed rows, from its place to its end: room, and its rows
-abbrev pub PackedChecked : List ℕ → ℕ → ℕ → ℕ → ℕ → Done → Type 0
-PackedChecked file at end rows row answer =
-    Step (truncated (ltb (length file) end) ∷ rowsFaults (partOf file (record { at = at; bytes = end - at })) rows row) answer
 
 -- one strip, and all strips' places and lengths, of a page past its other faults
 abbrev pub OnePlaced : List ℕ → Strips → ℕ → Place → Type 0

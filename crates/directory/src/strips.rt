@@ -9,13 +9,14 @@ use packbits::check_rows;
 use tags::strips_per_plane;
 ghost use mathlib.Core.Path.{_≡_};
 ghost use Prim.Native.Nat.{_+_, _-_, _*_, _%_, _≤_, _<_};
+ghost use mathlib.Core.List.{[]};
 ghost use lib.ListN.{length};
 ghost use lib.Dec.{eqb};
 ghost use Rattle.answer.specs.Outcome.{pick, Step};
 ghost use Rattle.answer.specs.Table.{filled};
+ghost use Rattle.packbits.specs.Rows.{rowsFaults};
 ghost use Rattle.tags.specs.Tags.{stripsPerPlane};
 ghost use Rattle.directory.specs.Page.{smaller, stripPlace, stripLength, stripFaults, stripsFaults, partNumber};
-ghost use Rattle.directory.specs.Parts.{PackedChecked};
 
 // What strips are found by: their places and lengths, the rows of the page and of a strip, the bytes of a row, and whether rows are packed.
 pub(crate) struct Strips {
@@ -66,15 +67,14 @@ pub(crate) fn length_of(file: &[u8], s: Strips, k: u32) -> u32
     value(file, s.le, counts, k)
 }
 
-// A strip of packed rows: its length is free, and where it is all there its rows are read.
-fn check_packed(file: &[u8], at: usize, end: usize, rows: u32, row: u32) -> Done
-    requires { ⌜ at ≤ end ⌝ }
-    ensures { λ r. ⌜ PackedChecked (now (file .entry)) at end rows row r ⌝ }
+// The rows of a strip, which are read if they are packed.
+fn check_packed(packed: bool, strip: &[u8], rows: u32, row: u32) -> Done
+    ensures { λ r. ⌜ Step (pick packed (rowsFaults (now (strip .entry)) rows row) []) r ⌝ }
 {
-    if file.len() < end {
-        return Done::Refused(Refusal::Truncated);
+    match packed {
+        true => check_rows(strip, rows as usize, row as usize),
+        false => Done::Done,
     }
-    check_rows(&file[at..end], rows as usize, row as usize)
 }
 
 // Strip k, which is the turn-th of its plane.
@@ -86,13 +86,16 @@ fn check_turn(file: &[u8], s: Strips, k: u32, turn: u32) -> Done
     let bytes = length_of(file, s, k) as usize;
     let rows = rows_at(s.rows, s.each, turn);
     let right = times(rows, s.row);
-    if s.packbits {
-        return check_packed(file, at, at + bytes, rows, s.row);
-    }
-    first_of(
-        fault(bytes != right, Refusal::Invalid),
+    match first_of(
+        fault(!s.packbits & (bytes != right), Refusal::Invalid),
         fault(file.len() < at + bytes, Refusal::Truncated),
-    )
+    ) {
+        Done::Refused(r) => Done::Refused(r),
+        Done::Done => {
+            let end = at + bytes;
+            check_packed(s.packbits, &file[at..end], rows, s.row)
+        }
+    }
 }
 
 fn rest(k: u32, per: u32) -> u32

@@ -1,13 +1,5 @@
--- `directory::strips::check_packed` meets its contract: room, then the rows of what is there. Assumes nothing.
-use Rattle.answer.proofs.Promised.{passed}
+-- `directory::strips::check_packed` meets its contract: nothing is looked for in rows that are not packed. Assumes nothing.
 use borrow.Author.Needs.{needs}
-use borrow.Author.Tests.{le-ltb, lt-ltb}
-use denote.Ref.{now}
-use lib.Dec.{ltb}
-use lib.ListN.{length}
-use mathlib.Core.Bool.{false, true}
-use mathlib.Core.Path.{_≡_}
-use native.Mathlib.Omega.{arith}
 use Rattle.directory.proofs.strips.check_packed.Statement.{statement}
 use Rattle.directory.proofs.strips.check_packed.Tie as tie
 
@@ -15,13 +7,6 @@ pub check-packed-spec : {M : Type 1} → statement M
 check-packed-spec =
     tie.close
     (tie.spec
-    (λ c.
-    let args = c .before .before .args in
-    let short : ltb (length (now (args .file))) (args .end) ≡ true = lt-ltb _ _ (c .if1 .taken) in
-    record { passed = rw short })
-    (λ c. search needs) (λ c. search needs) (λ c. search needs) (λ c κs. search needs)
-    (λ c.
-    let test = c .before .before in
-    let args = test .before .before .args in
-    let room : ltb (length (now (args .file))) (args .end) ≡ false = le-ltb _ _ (test .if1 .left) in
-    record { passed = rw room (c .check-rows .ensures .passed) }))
+    (λ c κs. search needs)
+    (λ c. rw (c .before .if1 .taken) (c .check-rows .ensures))
+    (λ c. search needs))
