@@ -5,6 +5,7 @@ use answer::Done;
 use answer::SampleAt;
 
 mod layouts;
+mod packing;
 mod pages;
 mod states;
 

@@ -30,7 +30,7 @@ abbrev pub RowFits : List ℕ → List ℕ → Type 0
 RowFits packed row = Sound (rowFaults packed (length row))
 
 abbrev pub RowFilled : List ℕ → List ℕ → List ℕ → Type 0
-RowFilled packed old new = new ≡ rowBytes packed (length old)
+RowFilled packed old new = new ≡ putAt 0 (rowBytes packed (length old)) old
 
 -- the bytes of a planned packet, and of a plan
 abbrev pub packetLength : Planned → ℕ

@@ -18,6 +18,8 @@ use writing::put_plan;
 ghost use mathlib.Core.Path.{_≡_};
 ghost use Prim.Native.Nat.{_+_, _/_};
 ghost use lib.ListN.{length};
+ghost use lib.Dec.{eqb};
+ghost use Rattle.answer.specs.Outcome.{pick};
 ghost use Rattle.packbits.specs.Rows.{RowMeasured, RowUnpacked, RowsChecked};
 ghost use Rattle.packbits.specs.Plans.{literalsOf, PlanWritten, RowPacked};
 
@@ -51,13 +53,24 @@ pub fn row_used(packed: &[u8], row_bytes: usize) -> Unpacked
     Unpacked::Used(at)
 }
 
+// Rows of no bytes take nothing, however many.
+fn turns(rows: usize, row_bytes: usize) -> usize
+    ensures { λ r. ⌜ r ≡ pick (eqb «row_bytes» 0) 0 rows ⌝ }
+{
+    match row_bytes == 0 {
+        true => 0,
+        false => rows,
+    }
+}
+
 // Rows that follow each other to the input's end.
 pub fn check_rows(packed: &[u8], rows: usize, row_bytes: usize) -> Done
     ensures { λ r. ⌜ RowsChecked (now (packed .entry)) rows «row_bytes» r ⌝ }
 {
+    let all = turns(rows, row_bytes);
     let mut at: usize = 0;
     let mut k: usize = 0;
-    while k < rows {
+    while k < all {
         match row_used(&packed[at..], row_bytes) {
             Unpacked::Refused(r) => return Done::Refused(r),
             Unpacked::Used(n) => {

@@ -34,7 +34,7 @@ fn kept(row: &[u8], at: usize, kind: u8, bytes: u8) -> bool
         return (1 <= n) & (n <= 128);
     }
     let end = at + n;
-    (kind == 1) & (2 <= n) & (n <= 128) & alike(&row[at..end])
+    (kind == 1) & ((2 <= n) & (n <= 128) & alike(&row[at..end]))
 }
 
 // Whether a plan keeps the rules and adds up to the row.

@@ -1,0 +1,4 @@
+pub mod Onward
+pub mod Packets
+pub mod Planning
+pub mod Putting

@@ -1,0 +1,45 @@
+-- `packbits::unpack_row` meets its promise: it refuses as the look at the headers does, and past that the row is filled. Assumes nothing.
+use borrow.Author.Needs.{needs}
+use mathlib.Core.Path.{_≡_, sym}
+use lib.ListN.{length}
+use denote.Ref.{now}
+use Rattle.answer.specs.Outcome.{Sound}
+use Rattle.answer.proofs.Promised.{refuses}
+use Rattle.packbits.specs.Rows.{rowFaults, rowBytes, used}
+use Rattle.packbits.proofs.Onward.{finishes-with}
+use Rattle.packbits.proofs.Packets.{measured-refused, measured-done}
+use Rattle.packbits.proofs.unpack_row.Statement.{statement}
+use Rattle.packbits.proofs.unpack_row.Tie as tie
+
+abbrev begun : tie.After-row-used → tie.Start
+begun c = c .before .before .before
+
+done : (c : tie.After-n) → let args = begun (c .before .before) .args in let n = length (now (args .row)) in Sound (rowFaults (now (args .packed)) n) × (used (now (args .packed)) n ≡ c .n .given .0 .0)
+done c =
+    let look = c .before .before in
+    let args = begun look .args in measured-done (now (args .packed)) (length (now (args .row))) (look .row-used .ensures) (c .n .given .1)
+
+pub unpack-row-spec : {M : Type 1} → statement M
+unpack-row-spec =
+    tie.close
+    (tie.spec
+    (λ c κs. search needs)
+    (λ c. search needs)
+    (λ c. search needs)
+    (λ c κs. done (c .before .before) .0)
+    (λ c.
+    let told = c .before in
+    let look = told .before .before in
+    let args = begun look .args in
+    let packed = now (args .packed) in
+    let row = now (args .row) in
+    refuses (rowFaults packed (length row)) _ (rowBytes packed (length row)) row (measured-refused packed (length row) (look .row-used .ensures) (told .k .given .1)))
+    (λ c. search needs)
+    (λ c.
+    let filled = c .before .before in
+    let told = filled .before .before .before in
+    let args = begun (told .before .before) .args in
+    let packed = now (args .packed) in
+    let n = length (now (args .row)) in
+    let found = done told in
+    finishes-with (rowFaults packed n) (rowBytes packed n) (found .0) (sym (found .1)) (filled .fill-row .ensures)))
