@@ -21,7 +21,8 @@ ghost use Rattle.answer.specs.Outcome.{unless};
 ghost use Rattle.directory.specs.Page.{stripsFaults, foundOutcome, DirectoryRead, StripPlaced, StripCut, StripsPlaced};
 ghost use Rattle.directory.specs.Parts.{pageBy, OnePlaced, PartsPlaced};
 
-// A page: its layout, how its rows were predicted (1: not; 2: by the sample before), how many strips it has, and how its rows are compressed (1: not; 32773: PackBits).
+// A page: its layout, how its rows were predicted (1: not; 2: by the sample before), how many strips it has, and how they are
+// compressed (1: not; 32773: PackBits).
 pub struct Page {
     pub layout: RasterLayout,
     pub predictor: usize,
