@@ -1,4 +1,4 @@
-// A page of a TIFF file: its layout, its predictor, and where its strips stand.
+// A page of a TIFF file: its layout, its predictor, its compression, and where its strips stand.
 use answer::ByteAt;
 use answer::Done;
 use answer::Refusal;
