@@ -1,21 +1,30 @@
 -- What a loop over packets has behind it: faults that were not found, and bytes that were put one after another. Assumes nothing.
 use Prim.Native.Nat.{ℕ, suc, _+_, _-_, _≤_, _<_}
 use mathlib.Core.Path.{_≡_, refl, sym, ap, _∙_}
+use mathlib.Core.Bool.{Bool, true, _&&_}
 use mathlib.Core.List.{List, [], _∷_, _++_, append-assoc, append-nil}
-use native.Mathlib.Nat.{zero-add}
+use native.Mathlib.Nat.{zero-add, add-zero}
 use native.Mathlib.Numerals.{add-one}
 use native.Mathlib.Omega.{arith}
 use native.Mathlib.Decide.{ℕ-discrete}
 use borrow.Author.Tests.{le-ltb, eq-eqb, ne-eqb}
 use lib.ListN.{length, getD, take, drop, set, length-set, take-append-drop, length-append, length-drop, drop-of-length-le}
 use lib.Dec.{eqb}
-use lib.Seq.{take-at, drop-at, drop-drop, length-take-le, take-suc-set, drop-set-lt, set-split}
+use lib.Seq.{take-at, drop-at, drop-drop, length-take-le, take-suc-set, drop-set-lt, set-split, take-append-add, take-append-le}
 use Rattle.answer.specs.declared.Done.{Done}
 use Rattle.answer.specs.Outcome.{Fault, Sound, none, next, First, Outcome, done, unless, after, Promise, Step}
 use Rattle.answer.proofs.Promised.{sound-then, sound-more, sound-skip, finishing, finished, sound-done}
 use Rattle.answer.proofs.Filling.{table-self}
+use Rattle.laws.proofs.Says.{both, up}
 use Rattle.transport.specs.Moved.{Committed, commitFaults}
-use Rattle.packbits.specs.Parts.{putAt}
+use Rattle.packbits.specs.Parts.{putAt, Placed}
+
+-- both of two tests
+pub and-left : (a b : Bool) → (a && b) ≡ true → a ≡ true
+and-left a b e = both (up a) (up b) .tells e .0
+
+pub and-right : (a b : Bool) → (a && b) ≡ true → b ≡ true
+and-right a b e = both (up a) (up b) .tells e .1
 
 -- of a list of faults the rest is still to be looked for, and none was found before it
 pub record Past (whole rest : List Fault) : Type 0 where
@@ -64,6 +73,10 @@ put-length to bytes old h =
     length-append (take to old) (bytes ++ drop (to + length bytes) old)
     ∙ ap (λ (n : ℕ). length (take to old) + n) (length-append bytes (drop (to + length bytes) old))
     ∙ omega (arith, length-take-le to old (omega arith), length-drop (to + length bytes) old)
+
+-- bytes that are all of the buffer
+pub put-all : (bytes old : List ℕ) → length bytes ≡ length old → bytes ≡ putAt 0 bytes old
+put-all bytes old e = sym (append-nil bytes) ∙ ap (λ (l : List ℕ). bytes ++ l) (sym (drop-of-length-le old {i = 0 + length bytes} (omega arith)))
 
 -- a buffer into which a front of the whole was put, so that the rest goes in from `to` on
 pub record Upto (whole rest old : List ℕ) (to : ℕ) (out : List ℕ) : Type 0 where
@@ -122,3 +135,17 @@ pub put-two : (out : List ℕ) (to a b : ℕ) → to + 2 ≤ length out → set 
 put-two out to a b h =
     let one : set (set out to a) (to + 1) b ≡ putAt (to + 1) (b ∷ []) (set out to a) = set-split (set out to a) (to + 1) b (rw (length-set out to a) (omega arith)) ∙ ap (λ (n : ℕ). take (to + 1) (set out to a) ++ (b ∷ drop n (set out to a))) (sym (add-one (to + 1))) in
     one ∙ put-after out to a (b ∷ []) (omega arith)
+
+-- n bytes placed, as the front of what was put there; and none
+pub placed-by : (to n : ℕ) (source : List ℕ) {bytes row new : List ℕ} → take n source ≡ bytes → n ≤ length source → to + length source ≤ length row → new ≡ putAt to source row → Placed to bytes row new
+placed-by to n source {bytes} {row} {new} is h room e =
+    let long : length bytes ≡ n = ap length (sym is) ∙ length-take-le n source h in
+    let front : length (take to row) ≡ to = length-take-le to row (omega arith) in
+    let span : to + length bytes ≡ length (take to row) + n = omega arith in
+    record {
+      same = ap length e ∙ put-length to source row room;
+      front = ap (take (to + length bytes)) e ∙ ap (λ (k : ℕ). take k (putAt to source row)) span ∙ take-append-add (take to row) (source ++ drop (to + length source) row) n ∙ ap (λ (l : List ℕ). take to row ++ l) (take-append-le n source (drop (to + length source) row) h ∙ is);
+    }
+
+pub placed-none : (to : ℕ) (row : List ℕ) → Placed to [] row row
+placed-none to row = record { same = refl; front = ap (λ (n : ℕ). take n row) (add-zero to) ∙ sym (append-nil (take to row)) }

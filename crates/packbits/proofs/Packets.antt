@@ -1,28 +1,29 @@
 -- A row's packets one by one: the next, its faults and its bytes, and what a look at the headers and a filled row have behind them. Assumes nothing.
 use Prim.Native.Nat.{ℕ, zero, suc, _+_, _-_, _≤_, _<_}
 use mathlib.Core.Path.{_≡_, refl, sym, ap, _∙_}
-use mathlib.Core.Bool.{Bool, true, false, not}
-use mathlib.Core.List.{List, [], _∷_, _++_}
+use mathlib.Core.Bool.{Bool, true, false, not, _&&_}
+use mathlib.Core.List.{List, [], _∷_, _++_, append-assoc, append-nil}
 use native.Mathlib.Omega.{arith}
 use native.Mathlib.Nat.{sub-zero, add-zero, zero-add, add-assoc}
-use borrow.Author.Tests.{ltb-true, ltb-false, eqb-true, eqb-false, eq-eqb, ne-eqb, lt-ltb, le-ltb}
-use lib.ListN.{length, getD, take, drop, length-drop, length-append, take-append-drop}
-use lib.Seq.{getD-drop, drop-drop, length-take-le, take-all}
-use lib.Dec.{eqb, ltb}
+use borrow.Author.Tests.{ltb-true, ltb-false, leb-true, eqb-true, eqb-false, eq-eqb, ne-eqb, lt-ltb, le-ltb}
+use lib.ListN.{length, getD, take, drop, length-drop, length-append}
+use lib.Seq.{getD-drop, drop-drop, length-take-le, take-all, take-take}
+use lib.Dec.{eqb, ltb, leb}
 use Rattle.answer.specs.declared.Done.{Done}
 use Rattle.answer.specs.declared.Done.the-variants as Done-is
 use Rattle.answer.specs.declared.Refusal.{Refusal}
 use Rattle.answer.specs.declared.Refusal.the-variants.{Invalid, Truncated}
-use Rattle.answer.specs.Outcome.{Fault, Sound, none, First, here, done, unless, number, pick, truncated, faultOf, Step, InOrder}
+use Rattle.answer.specs.Outcome.{Fault, Sound, none, next, First, here, done, unless, number, pick, truncated, faultOf, Step, InOrder}
 use Rattle.answer.proofs.Promised.{refusing, refused-told, done-sound, done-value, first-more, sound-front, sound-back, sound-here, sound-rest}
 use Rattle.answer.specs.Table.{table}
-use Rattle.answer.proofs.Filling.{length-table}
+use Rattle.answer.proofs.Filling.{length-table, table-at, table-same}
+use Rattle.laws.proofs.Lists.{own-front}
 use Rattle.transport.specs.Moved.{Committed}
 use Rattle.packbits.specs.declared.Unpacked.{Unpacked}
 use Rattle.packbits.specs.declared.Unpacked.the-variants as Unpacked-is
 use Rattle.packbits.specs.Rows.{fills, takes, Packet, header, behind, packetsUpto, packets, packetFaults, packetBytes, faultsOf, bytesOf, takenBy, rowFaults, rowBytes, used, rowsFaults, usedOutcome, RowMeasured}
-use Rattle.packbits.specs.Parts.{begun, putAt, PacketFits}
-use Rattle.packbits.proofs.Onward.{Past, past-none, past-on, past-first, past-sound, past-step, used-up, Upto, upto-none, upto-on, upto-end, put-part, copied}
+use Rattle.packbits.specs.Parts.{begun, wholeLiteral, doesNothing, putAt, bytesAt, Placed, CopyFits}
+use Rattle.packbits.proofs.Onward.{and-left, and-right, Past, past-none, past-on, past-first, past-sound, past-step, used-up, put-part, copied, placed-by}
 
 -- a packet takes a byte or more
 pub takes-some : (h : ℕ) → 0 < takes h
@@ -262,78 +263,133 @@ measured-done packed n {a} {m} p e =
     let is : unless (rowFaults packed n) (used packed n) ≡ done m = sym p ∙ ap usedOutcome e in
     (done-sound (rowFaults packed n) (used packed n) m is, done-value (rowFaults packed n) (used packed n) m is)
 
--- one packet put into a row: bytes copied, a byte repeated, or nothing
-module _ (packed row : List ℕ) (at from : ℕ) (within : from ≤ length row) (fit : FitsAt packed at (length row - from)) where
+-- a packet without a fault, from what was seen of it
+pub sound-at : (packed : List ℕ) (at left : ℕ) → at < length packed → fills (getD packed at 0) ≤ left → at + takes (getD packed at 0) ≤ length packed → Sound (packetFaults (begun packed at left))
+unfolding packetFaults
+sound-at packed at left inside passes whole =
+    rw (length-drop at packed, header-at packed at left)
+    (next (ne-eqb (length packed - at) 0 (λ e. omega arith)) (next (le-ltb left (fills (getD packed at 0)) passes) (next (le-ltb (length packed - at) (takes (getD packed at 0)) (omega arith)) none)))
+
+-- a look past a packet of which the first byte was seen
+pub looked-past : {packed : List ℕ} {n at left f t : ℕ} → Looked packed n at left → 0 < left → Header (getD packed at 0) f t → at < length packed → f ≤ left → at + t ≤ length packed → Looked packed n (at + t) (left - f)
+looked-past {packed} {n} {at} {left} l more kind inside passes whole =
+    rw (kind .fills-so, kind .takes-so) at (looked-on l more (sound-at packed at left inside (rw (kind .fills-so) passes) (rw (kind .takes-so) whole)))
+
+pub record WholeLiteral (packed : List ℕ) (at left : ℕ) : Type 0 where
+  pub there : at + 129 ≤ length packed
+  pub fits : 128 ≤ left
+  pub kind : Header (getD packed at 0) 128 129
+
+pub whole-literal-is : (packed : List ℕ) (at left : ℕ) → wholeLiteral packed at left ≡ true → WholeLiteral packed at left
+whole-literal-is packed at left e =
+    let room = leb 129 (length packed - at) in
+    let some = leb 128 left in
+    let first = and-left (room && some) (eqb (getD packed at 0) 127) e in
+    let there = leb-true 129 (length packed - at) (and-left room some first) in
+    let h = eqb-true (getD packed at 0) 127 (and-right (room && some) (eqb (getD packed at 0) 127) e) in
+    let kind = copies 127 (omega arith) in
+    record { there = omega arith; fits = leb-true 128 left (and-right room some first); kind = rw h kind }
+
+pub record Nothing (packed : List ℕ) (at : ℕ) : Type 0 where
+  pub inside : at < length packed
+  pub kind : Header (getD packed at 0) 0 1
+
+pub nothing-is : (packed : List ℕ) (at : ℕ) → doesNothing packed at ≡ true → Nothing packed at
+nothing-is packed at e =
+    let inside = ltb at (length packed) in
+    let none = eqb (getD packed at 0) 128 in
+    record { inside = ltb-true at (length packed) (and-left inside none e); kind = rests _ (eqb-true (getD packed at 0) 128 (and-right inside none e)) }
+
+-- what a packet at a place fills the row with, by its kind
+module _ (packed : List ℕ) (at left : ℕ) where
   abbrev h : ℕ
   h = getD packed at 0
 
-  abbrev bytes : List ℕ
-  bytes = packetBytes (begun packed at (length row - from))
-
-  long : (f : ℕ) → f ≡ fills h → length (take (from + f - from) (drop from row)) ≡ f
-  long f e =
-      let span : from + f - from ≡ f = omega arith in
-      rw span (length-take-le f (drop from row) (rw (length-drop from row) (omega (arith, fit .passes))))
-
-  pub put-copied : h < 128 → (f t : ℕ) → f ≡ fills h → t ≡ takes h → (new : List ℕ) (a : Done) → Committed (take (at + t - (at + 1)) (drop (at + 1) packed)) (take (from + f - from) (drop from row)) a new → take from row ++ (new ++ drop (from + f - from) (drop from row)) ≡ putAt from bytes row
+  pub copied-bytes : h < 128 → packetBytes (begun packed at left) ≡ bytesAt packed (at + 1) (h + 1)
   unfolding packetBytes
-  put-copied l f t f-is t-is new a copy =
-      let kind = copies h l in
-      let span : at + t - (at + 1) ≡ f = omega (arith, kind .fills-so, kind .takes-so) in
-      let source : length (take f (drop (at + 1) packed)) ≡ f = length-take-le f (drop (at + 1) packed) (rw (length-drop (at + 1) packed) (omega (arith, fit .whole, kind .fills-so, kind .takes-so))) in
-      let is : bytes ≡ take f (drop (at + 1) packed) = rw (header-at packed at (length row - from), lt-ltb h 128 l, ← f-is) (ap (take f) (drop-drop 1 at packed)) in
-      let same : new ≡ bytes = copied _ _ new a copy (rw span source ∙ sym (long f f-is)) ∙ ap (λ (n : ℕ). take n (drop (at + 1) packed)) span ∙ sym is in
-      put-part row from (from + f) same (omega arith) (ap length is ∙ source ∙ omega arith)
+  copied-bytes l =
+      rw (header-at packed at left, lt-ltb h 128 l, copies h l .fills-so) (ap (take (h + 1)) (drop-drop 1 at packed))
 
-  is-repeat : 128 ≤ h → bytes ≡ table (fills h) (λ k. getD packed (at + 1) 0)
+  pub repeated-bytes : {f t : ℕ} → 128 ≤ h → Header h f t → packetBytes (begun packed at left) ≡ table f (λ k. getD packed (at + 1) 0)
   unfolding packetBytes
-  is-repeat l = rw (header-at packed at (length row - from), le-ltb h 128 l) (ap (λ (b : ℕ). table (fills h) (λ k. b)) (getD-drop at packed 1 0))
+  repeated-bytes l kind = rw (header-at packed at left, le-ltb h 128 l, ← kind .fills-so) (ap (λ (b : ℕ). table (fills h) (λ k. b)) (getD-drop at packed 1 0))
 
-  pub put-repeated : 128 < h → (f : ℕ) → f ≡ fills h → (new : List ℕ) → new ≡ table (length (take (from + f - from) (drop from row))) (λ k. getD packed (at + 1) 0) → take from row ++ (new ++ drop (from + f - from) (drop from row)) ≡ putAt from bytes row
-  put-repeated l f f-is new e =
-      let is = is-repeat (omega arith) in
-      let same : new ≡ bytes = e ∙ ap (λ (n : ℕ). table n (λ k. getD packed (at + 1) 0)) (long f f-is ∙ f-is) ∙ sym is in
-      put-part row from (from + f) same (omega arith) (ap length is ∙ length-table (fills h) _ ∙ omega (arith, f-is))
+-- a part of a row: copied, or filled with a byte
+pub part-copied : (packed row : List ℕ) (begin n from : ℕ) → CopyFits packed begin n row from → (new : List ℕ) (a : Done) → Committed (take (begin + n - begin) (drop begin packed)) (take (from + n - from) (drop from row)) a new → take from row ++ (new ++ drop (from + n - from) (drop from row)) ≡ putAt from (bytesAt packed begin n) row
+part-copied packed row begin n from room new a copy =
+    let read : begin + n - begin ≡ n = omega arith in
+    let span : from + n - from ≡ n = omega arith in
+    let source : length (bytesAt packed begin n) ≡ n = length-take-le n (drop begin packed) (rw (length-drop begin packed) (omega (arith, room .0))) in
+    let old : length (take n (drop from row)) ≡ n = length-take-le n (drop from row) (rw (length-drop from row) (omega (arith, room .1))) in
+    let same : new ≡ bytesAt packed begin n = copied _ _ new a copy (rw (read, span) (source ∙ sym old)) ∙ ap (λ (k : ℕ). take k (drop begin packed)) read in
+    put-part row from (from + n) same (omega arith) (source ∙ sym span)
 
-  pub put-nothing : h ≡ 128 → row ≡ putAt from bytes row
-  put-nothing e =
-      let is : bytes ≡ [] = is-repeat (omega arith) ∙ ap (λ (n : ℕ). table n (λ k. getD packed (at + 1) 0)) (rests h e .fills-so) in
-      sym (take-append-drop from row) ∙ ap (λ (l : List ℕ). take from row ++ l) (ap (λ (n : ℕ). drop n row) (sym (add-zero from))) ∙ ap (λ (l : List ℕ). take from row ++ (l ++ drop (from + length l) row)) (sym is)
+pub part-filled-with : (row : List ℕ) (n from b : ℕ) → from + n ≤ length row → {new : List ℕ} → new ≡ table (length (take (from + n - from) (drop from row))) (λ k. b) → take from row ++ (new ++ drop (from + n - from) (drop from row)) ≡ putAt from (table n (λ k. b)) row
+part-filled-with row n from b room e =
+    let span : from + n - from ≡ n = omega arith in
+    let old : length (take (from + n - from) (drop from row)) ≡ n = ap (λ (k : ℕ). length (take k (drop from row))) span ∙ length-take-le n (drop from row) (rw (length-drop from row) (omega arith)) in
+    put-part row from (from + n) (e ∙ ap (λ (k : ℕ). table k (λ j. b)) old) (omega arith) (length-table n (λ k. b) ∙ sym span)
+
+-- what was put there places the first n of it
+pub repeat-placed : (row : List ℕ) (n m from b : ℕ) → n ≤ m → from + m ≤ length row → {new : List ℕ} → new ≡ putAt from (table m (λ k. b)) row → Placed from (table n (λ k. b)) row new
+repeat-placed row n m from b h room e =
+    let long = length-table m (λ k. b) in
+    let front : take n (table m (λ k. b)) ≡ table n (λ k. b) = sym (own-front n (table m (λ k. b)) (omega arith)) ∙ table-same n _ _ (λ k l. table-at m (λ j. b) k (omega arith)) in
+    placed-by from n (table m (λ k. b)) front (omega arith) (omega arith) e
+
+pub literal-placed : (packed row : List ℕ) (begin n m from : ℕ) → n ≤ m → CopyFits packed begin m row from → {new : List ℕ} → new ≡ putAt from (bytesAt packed begin m) row → Placed from (bytesAt packed begin n) row new
+literal-placed packed row begin n m from h room e =
+    let long : length (bytesAt packed begin m) ≡ m = length-take-le m (drop begin packed) (rw (length-drop begin packed) (omega (arith, room .0))) in
+    placed-by from n (bytesAt packed begin m) (take-take n m (drop begin packed) h) (omega arith) (omega (arith, room .1)) e
 
 -- a row that packets have filled up to a place
 pub record Filling (packed row₀ : List ℕ) (at from : ℕ) (row : List ℕ) : Type 0 where
   pub inside : at ≤ length packed
+  pub within : from ≤ length row₀
+  pub same : length row ≡ length row₀
   pub sound : Sound (faultsOf (packets (begun packed at (length row₀ - from))))
-  pub upto : Upto (rowBytes packed (length row₀)) (bytesOf (packets (begun packed at (length row₀ - from)))) row₀ from row
+  pub so-far : take from row ++ bytesOf (packets (begun packed at (length row₀ - from))) ≡ rowBytes packed (length row₀)
 
 pub filling-none : (packed row : List ℕ) → Sound (rowFaults packed (length row)) → Filling packed row 0 0 row
 filling-none packed row s =
-    record { inside = omega arith; sound = rw (sub-zero (length row)) s; upto = rw (sub-zero (length row)) (upto-none (rowBytes packed (length row)) row) }
+    record { inside = omega arith; within = omega arith; same = refl; sound = rw (sub-zero (length row)) s; so-far = rw (sub-zero (length row)) }
 
 module _ {packed row₀ row : List ℕ} {at from : ℕ} (fill : Filling packed row₀ at from row) where
-  module _ (more : from < length row₀) where
-    pub packet-sound : Sound (packetFaults (begun packed at (length row₀ - from)))
-    packet-sound = sound-front _ _ (rw (begins (begun packed at (length row₀ - from)) (omega arith)) at (fill .sound))
+  module _ (more : from < length row) where
+    abbrev left : ℕ
+    left = length row₀ - from
 
-    pub packet-fits : PacketFits packed at row from
-    packet-fits =
-        record { inside = fill .inside; within = omega (arith, fill .upto .same); sound = rw (fill .upto .same) packet-sound }
+    some-left : 0 < left
+    some-left = omega (arith, fill .same)
 
-    pub filling-on : {new : List ℕ} → new ≡ putAt from (packetBytes (begun packed at (length row - from))) row → let h = getD packed at 0 in Filling packed row₀ (at + takes h) (from + fills h) new
-    filling-on {new} e =
-        let left = length row₀ - from in
-        let h = getD packed at 0 in
+    packet-sound : Sound (packetFaults (begun packed at left))
+    packet-sound = sound-front _ _ (rw (begins (begun packed at left) some-left) at (fill .sound))
+
+    pub packet-fits : FitsAt packed at left
+    packet-fits = fits-at packed at left packet-sound
+
+    -- where the packet ends, once its kind is known
+    pub ends : {f t : ℕ} → Header (getD packed at 0) f t → (at + t ≤ length packed) × (from + f ≤ length row)
+    ends kind =
+        let fit = packet-fits in
+        (rw (← kind .takes-so) (fit .whole), omega (arith, fit .passes, kind .fills-so, fill .same))
+
+    pub filling-on : {new bytes : List ℕ} {f t : ℕ} → Header (getD packed at 0) f t → packetBytes (begun packed at left) ≡ bytes → Placed from bytes row new → Filling packed row₀ (at + t) (from + f) new
+    filling-on {new} {bytes} {f} {t} kind is put =
         let p = begun packed at left in
-        let next = next-at packed at left (omega arith) packet-sound in
-        let rest : left - fills h ≡ length row₀ - (from + fills h) = omega arith in
-        let fit = fits-at packed at left packet-sound in
-        let long : length (packetBytes p) ≡ fills h = length-packet p (fits p packet-sound) ∙ ap fills (header-at packed at left) in
+        let next : packets p ≡ p ∷ packets (begun packed (at + t) (left - f)) = rw (kind .fills-so, kind .takes-so) at (next-at packed at left some-left packet-sound) in
+        let rest : left - f ≡ length row₀ - (from + f) = omega arith in
+        let long : length bytes ≡ f = ap length (sym is) ∙ length-packet p (fits p packet-sound) ∙ ap fills (header-at packed at left) ∙ kind .fills-so in
+        let on : bytesOf (packets p) ≡ bytes ++ bytesOf (packets (begun packed (at + t) (left - f))) = ap bytesOf next ∙ ap (λ (l : List ℕ). l ++ bytesOf (packets (begun packed (at + t) (left - f)))) is in
         record {
-          inside = fit .whole;
+          inside = ends kind .0;
+          within = omega (arith, ends kind .1, fill .same);
+          same = put .same ∙ fill .same;
           sound = rw (← rest) (sound-back (packetFaults p) _ (rw next at (fill .sound)));
-          upto = rw (← rest) (rw long at (upto-on (packetBytes p) (rw next at (fill .upto)) (rw long (omega (arith, fit .passes))) (rw (fill .upto .same) at e)));
+          so-far = rw (← rest) (ap (λ (l : List ℕ). l ++ bytesOf (packets (begun packed (at + t) (left - f)))) (rw long at (put .front)) ∙ append-assoc (take from row) bytes _ ∙ sym (ap (λ (l : List ℕ). take from row ++ l) on) ∙ fill .so-far);
         }
 
-  pub filling-end : length row₀ ≤ from → row ≡ putAt 0 (rowBytes packed (length row₀)) row₀
+  pub filling-end : length row ≤ from → row ≡ rowBytes packed (length row₀)
   filling-end end =
-      let none-left : length row₀ - from ≡ 0 = omega arith in upto-end (rw none-left at (fill .upto))
+      let none-left : length row₀ - from ≡ 0 = omega (arith, fill .same) in
+      sym (append-nil row) ∙ ap (λ (l : List ℕ). l ++ []) (sym (take-all from row end)) ∙ rw none-left at (fill .so-far)

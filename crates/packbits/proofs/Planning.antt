@@ -13,13 +13,12 @@ use lib.Dec.{eqb, leb, ltb}
 use Rattle.answer.specs.declared.Refusal.{Refusal}
 use Rattle.answer.specs.Outcome.{First, done, unless, number, pick}
 use Rattle.answer.proofs.Promised.{refused-told, done-sound, done-value, sound-here}
-use Rattle.laws.proofs.Says.{both, up}
 use Rattle.laws.proofs.Turns.{every-same}
 use Rattle.packbits.specs.declared.Packed.{Packed}
 use Rattle.packbits.specs.declared.Packed.the-variants as Packed-is
 use Rattle.packbits.specs.Plans.{packedOutcome, Planned, planOf, alike, literalRule, repeatRule, kept, keeps, packetOf, planBytes}
 use Rattle.packbits.specs.Parts.{packetLength, planLength, roomFaults}
-use Rattle.packbits.proofs.Onward.{used-up, Upto, upto-none, upto-on, upto-end}
+use Rattle.packbits.proofs.Onward.{and-left, and-right, used-up}
 
 -- bytes that are alike, in a part of a list
 part-alike : (n : ℕ) (l : List ℕ) → n ≤ length l → alike (length (take n l)) (take n l) ≡ alike n l
@@ -48,12 +47,6 @@ module _ (row : List ℕ) (at kind bytes : ℕ) where
         rw (length-drop at row, le-leb bytes (length row - at) h, ne-eqb kind 0 o, same)
 
 -- what a packet that keeps them is
-pub and-left : (a b : Bool) → (a && b) ≡ true → a ≡ true
-and-left a b e = both (up a) (up b) .tells e .0
-
-pub and-right : (a b : Bool) → (a && b) ≡ true → b ≡ true
-and-right a b e = both (up a) (up b) .tells e .1
-
 pub record Kept (row : List ℕ) (p : Planned) : Type 0 where
   pub inside : p .bytes ≤ length row
   pub some : 1 ≤ p .bytes

@@ -17,8 +17,8 @@ use Rattle.laws.proofs.Says.{held}
 use Rattle.transport.specs.Moved.{Committed}
 use Rattle.packbits.specs.Plans.{Planned, planOf, kept, keeps, literalRule, packetOf, planBytes, planFaults, packFaults, literals, literalsOf, plainPlan}
 use Rattle.packbits.specs.Parts.{putAt, packetLength, planLength, roomFaults, Literal, PlannedFits, PlannedPut}
-use Rattle.packbits.proofs.Onward.{Upto, upto-none, upto-on, upto-end, put-part, put-length, copied, put-after, put-two}
-use Rattle.packbits.proofs.Planning.{Kept, kept-is, and-left, and-right, plan-from, planned-at, plan-next, plan-end}
+use Rattle.packbits.proofs.Onward.{and-left, and-right, Upto, upto-none, upto-on, upto-end, put-part, put-length, copied, put-after, put-two}
+use Rattle.packbits.proofs.Planning.{kept-is, plan-from, planned-at, plan-next, plan-end}
 
 -- a packet's bytes, and a plan's
 pub packet-long : (row : List ℕ) (p : Planned) → p .bytes ≤ length row → length (packetOf row p) ≡ packetLength p

@@ -1,12 +1,12 @@
 -- What the crate's own functions need and answer. Assumes nothing.
 use Prim.Native.Nat.{ℕ, _+_, _-_, _≤_}
 use mathlib.Core.Path.{_≡_}
-use mathlib.Core.Bool.{true}
+use mathlib.Core.Bool.{Bool, true, _&&_}
 use mathlib.Core.List.{List, [], _∷_, _++_}
-use lib.ListN.{length, take, drop}
-use lib.Dec.{eqb, ltb}
+use lib.ListN.{length, getD, take, drop}
+use lib.Dec.{eqb, ltb, leb}
 use Rattle.answer.specs.Outcome.{Fault, Sound, outputTooSmall, pick}
-use Rattle.packbits.specs.Rows.{Packet, packetFaults, packetBytes, rowFaults, rowBytes}
+use Rattle.packbits.specs.Rows.{Packet, rowFaults, rowBytes}
 use Rattle.packbits.specs.Plans.{Planned, planOf, kept, keeps, packetOf, planBytes, literalsOf, plainPlan}
 
 -- the packet at a place of the input
@@ -17,20 +17,31 @@ begun packed at left = record { input = drop at packed; left = left }
 abbrev pub putAt : ℕ → List ℕ → List ℕ → List ℕ
 putAt to bytes old = take to old ++ (bytes ++ drop (to + length bytes) old)
 
--- one packet into a row, and all of them
-pub record PacketFits (packed : List ℕ) (at : ℕ) (row : List ℕ) (from : ℕ) : Type 0 where
-  pub inside : at ≤ length packed
-  pub within : from ≤ length row
-  pub sound : Sound (packetFaults (begun packed at (length row - from)))
+-- or into which more were put: the bytes behind them are of no account
+pub record Placed (to : ℕ) (bytes old new : List ℕ) : Type 0 where
+  pub same : length new ≡ length old
+  pub front : take (to + length bytes) new ≡ take to old ++ bytes
 
-abbrev pub PacketPut : List ℕ → ℕ → List ℕ → ℕ → List ℕ → Type 0
-PacketPut packed at old from new = new ≡ putAt from (packetBytes (begun packed at (length old - from))) old
+-- a literal of 128 bytes, all there and within what is left of the row; and a packet that does nothing
+abbrev pub wholeLiteral : List ℕ → ℕ → ℕ → Bool
+wholeLiteral packed at left = leb 129 (length packed - at) && leb 128 left && eqb (getD packed at 0) 127
 
+abbrev pub doesNothing : List ℕ → ℕ → Bool
+doesNothing packed at = ltb at (length packed) && eqb (getD packed at 0) 128
+
+-- n bytes of the input into a row
+abbrev pub bytesAt : List ℕ → ℕ → ℕ → List ℕ
+bytesAt packed begin n = take n (drop begin packed)
+
+abbrev pub CopyFits : List ℕ → ℕ → ℕ → List ℕ → ℕ → Type 0
+CopyFits packed begin n row from = (begin + n ≤ length packed) × (from + n ≤ length row)
+
+-- all of a row
 abbrev pub RowFits : List ℕ → List ℕ → Type 0
 RowFits packed row = Sound (rowFaults packed (length row))
 
 abbrev pub RowFilled : List ℕ → List ℕ → List ℕ → Type 0
-RowFilled packed old new = new ≡ putAt 0 (rowBytes packed (length old)) old
+RowFilled packed old new = new ≡ rowBytes packed (length old)
 
 -- the bytes of a planned packet, and of a plan
 abbrev pub packetLength : Planned → ℕ

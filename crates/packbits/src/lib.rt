@@ -10,9 +10,11 @@ mod writing;
 use plans::check_plan;
 use plans::plan_length;
 use reading::check_packet;
+use reading::does_nothing;
 use reading::fill_row;
 use reading::fills;
 use reading::takes;
+use reading::whole_literal;
 use writing::put_literals;
 use writing::put_plan;
 ghost use mathlib.Core.Path.{_≡_};
@@ -42,13 +44,20 @@ pub fn row_used(packed: &[u8], row_bytes: usize) -> Unpacked
     let mut at: usize = 0;
     let mut left = row_bytes;
     while 0 < left {
-        match check_packet(packed, at, left) {
-            Done::Refused(k) => return Unpacked::Refused(k),
-            Done::Done => {}
+        if whole_literal(packed, at, left) {
+            left -= 128;
+            at += 129;
+        } else if does_nothing(packed, at) {
+            at += 1;
+        } else {
+            match check_packet(packed, at, left) {
+                Done::Refused(k) => return Unpacked::Refused(k),
+                Done::Done => {}
+            }
+            let header = packed[at];
+            left -= fills(header);
+            at += takes(header);
         }
-        let header = packed[at];
-        left -= fills(header);
-        at += takes(header);
     }
     Unpacked::Used(at)
 }

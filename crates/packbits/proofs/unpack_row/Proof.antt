@@ -1,13 +1,13 @@
 -- `packbits::unpack_row` meets its promise: it refuses as the look at the headers does, and past that the row is filled. Assumes nothing.
 use borrow.Author.Needs.{needs}
-use mathlib.Core.Path.{_≡_, sym}
+use mathlib.Core.Path.{_≡_, sym, _∙_}
 use lib.ListN.{length}
 use denote.Ref.{now}
 use Rattle.answer.specs.Outcome.{Sound}
 use Rattle.answer.proofs.Promised.{refuses}
 use Rattle.packbits.specs.Rows.{rowFaults, rowBytes, used}
-use Rattle.packbits.proofs.Onward.{finishes-with}
-use Rattle.packbits.proofs.Packets.{measured-refused, measured-done}
+use Rattle.packbits.proofs.Onward.{finishes-with, put-all}
+use Rattle.packbits.proofs.Packets.{measured-refused, measured-done, row-filled}
 use Rattle.packbits.proofs.unpack_row.Statement.{statement}
 use Rattle.packbits.proofs.unpack_row.Tie as tie
 
@@ -42,4 +42,4 @@ unpack-row-spec =
     let packed = now (args .packed) in
     let n = length (now (args .row)) in
     let found = done told in
-    finishes-with (rowFaults packed n) (rowBytes packed n) (found .0) (sym (found .1)) (filled .fill-row .ensures)))
+    finishes-with (rowFaults packed n) (rowBytes packed n) (found .0) (sym (found .1)) (filled .fill-row .ensures ∙ put-all (rowBytes packed n) (now (args .row)) (row-filled packed n (found .0)))))

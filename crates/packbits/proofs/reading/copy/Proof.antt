@@ -1,0 +1,20 @@
+-- `packbits::reading::copy` meets its contract: a part of the row is a copy of a part of the input. Assumes nothing.
+use borrow.Author.Needs.{needs}
+use native.Mathlib.Omega.{arith}
+use denote.Ref.{now}
+use Rattle.packbits.proofs.Packets.{part-copied}
+use Rattle.packbits.proofs.reading.copy.Statement.{statement}
+use Rattle.packbits.proofs.reading.copy.Tie as tie
+
+pub copy-spec : {M : Type 1} → statement M
+copy-spec =
+    tie.close
+    (tie.spec
+    (λ c. search needs) (λ c. search needs) (λ c. search needs) (λ c. search needs) (λ c. search needs) (λ c. search needs) (λ c. search needs) (λ c. search needs)
+    (λ c κs. search needs)
+    (λ c. search needs)
+    (λ c.
+    let moved = c .before .before in
+    let start = moved .before .before .before .before .before in
+    let args = start .args in
+    part-copied (now (args .packed)) (now (args .row)) (args .begin) (args .n) (args .from) (start .pre) _ (moved .commit-uninit .result) (moved .commit-uninit .ensures)))
