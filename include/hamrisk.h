@@ -197,15 +197,16 @@ uint32_t hamrisk_write_planes(const hamrisk_layout *layout, const uint8_t *pictu
                               size_t planes_len);
 
 /*
- * A page of a TIFF file. Its strips end to end are planes that hamrisk_render takes with this layout and this file; predicted
- * ones go through hamrisk_convert first, strip by strip or all at once: rows of derived[0] * derived[1] bytes, channels
- * derived[1] / layout.bytes, width layout.bytes.
+ * A page of a TIFF file. Its strips end to end are planes that hamrisk_render takes with this layout and this file; compressed
+ * ones are unpacked first, row by row, and predicted ones then go through hamrisk_convert, strip by strip or all at once: rows of
+ * derived[0] * derived[1] bytes, channels derived[1] / layout.bytes, width layout.bytes.
  */
 typedef struct hamrisk_page {
     hamrisk_layout layout;
-    size_t derived[7]; /* what follows from the layout, as hamrisk_check_layout gives it */
-    size_t predictor;  /* 1: samples are stored as they are; 2: predicted */
-    size_t strips;     /* how many strips it has */
+    size_t derived[7];  /* what follows from the layout, as hamrisk_check_layout gives it */
+    size_t predictor;   /* 1: samples are stored as they are; 2: predicted */
+    size_t strips;      /* how many strips it has */
+    size_t compression; /* 1: none; 32773: PackBits */
 } hamrisk_page;
 
 /*
@@ -225,7 +226,7 @@ typedef struct hamrisk_page {
  *       256 columns                SHORT or LONG  1         none     all
  *       257 rows                   SHORT or LONG  1         none     all
  *       258 bits of each sample    SHORT          not 0     one, 1   all the same: 1, 4, 8 or 16
- *       259 compression            SHORT          1         1        1, none
+ *       259 compression            SHORT          1         1        1 none; 32773 PackBits
  *       262 colours                SHORT          1         none     0 grey, 0 is white; 1 grey, 0 is black; 2 three; 3 palette
  *       273 places of strips       SHORT or LONG  not 0     none     all
  *       277 samples of a pixel     SHORT          1         1        all
@@ -245,9 +246,12 @@ typedef struct hamrisk_page {
  *  4. As hamrisk_check_layout of: w 256; h 257; ch 3 with a palette, else 277; bytes 2 if bits are 16, else 1; slots 8 if bits
  *     are 1, 2 if they are 4, else 1; palette; separate if 284 is 2; le if "II"; white if 262 is 0; alpha 338, or 0; map where the
  *     values of 320 stand, or 0.
- *  5. Each strip, by its number. Its bytes not its rows (278, or what is left for the last of a plane) * the bytes of a row: 2;
- *     place + bytes past file_len: 3.
- * Writes: *found, whose strips are all in the file, their lengths together the scratch length.
+ *  5. Each strip, by its number. Not compressed, and its bytes not its rows (278, or what is left for the last of a plane) * the
+ *     bytes of a row: 2; place + bytes past file_len: 3. With PackBits, each of its rows, which are packets until the row is full:
+ *     a byte h, and if it is below 128 the h + 1 bytes behind it; if it is above, the one behind it, 257 - h times; 128 fills
+ *     nothing. A packet that is not there: 3; one that passes the row's end: 2; one whose bytes are not all in the strip: 3. Then
+ *     bytes of the strip behind its last row: 2.
+ * Writes: *found, whose strips are all in the file, their rows together the scratch length.
  */
 uint32_t hamrisk_directory(const uint8_t *file, size_t file_len, size_t page, hamrisk_page *found);
 
@@ -255,7 +259,7 @@ uint32_t hamrisk_directory(const uint8_t *file, size_t file_len, size_t page, ha
  * Where strip k of a page stands. With planes apart the strips of the first plane come first, then those of the next.
  * Refuses: 1 to 4 of hamrisk_directory; k not below the number of strips: 2; 5 of hamrisk_directory, of this strip alone.
  *          So the sound strips of a file that lost its end are still found.
- * Writes: *place, the strip's first byte in file; *length, its bytes.
+ * Writes: *place, the strip's first byte in file; *length, its bytes there.
  */
 uint32_t hamrisk_strip(const uint8_t *file, size_t file_len, size_t page, size_t k, size_t *place, size_t *length);
 

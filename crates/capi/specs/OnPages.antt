@@ -1,4 +1,4 @@
--- What the calls that read directories lend back: a page as twenty numbers, and a strip's place and length (rule 9.7). Assumes nothing.
+-- What the calls that read directories lend back: a page as twenty-one numbers, and a strip's place and length (rule 9.7). Assumes nothing.
 use Prim.Native.Nat.{ℕ}
 use mathlib.Core.Bool.{Bool}
 use mathlib.Core.List.{List, [], _∷_, _++_}
@@ -31,7 +31,7 @@ layoutOf f =
     ∷ []
 
 abbrev pub numbersOf : Page → List ℕ
-numbersOf p = layoutOf (p .layout .fields) ++ (derivedOf (p .layout) ++ (p .predictor ∷ p .strips ∷ []))
+numbersOf p = layoutOf (p .layout .fields) ++ (derivedOf (p .layout) ++ (p .predictor ∷ p .strips ∷ p .compression ∷ []))
 
 abbrev pub foundNumbers : Found → Outcome (List ℕ)
 foundNumbers answer = taking numbersOf (foundOutcome answer)

@@ -19,8 +19,8 @@ pub(crate) fn flag(on: bool) -> usize
     }
 }
 
-// A page's layout, what follows from it, its predictor, and its number of strips.
-fn numbers_of(p: Page) -> [usize; 20]
+// A page's layout, what follows from it, its predictor, its number of strips, and its compression.
+fn numbers_of(p: Page) -> [usize; 21]
     ensures { λ r. ⌜ r ≡ numbersOf p ⌝ }
 {
     let l = p.layout;
@@ -50,12 +50,13 @@ fn numbers_of(p: Page) -> [usize; 20]
         l.colors,
         p.predictor,
         p.strips,
+        p.compression,
     ]
 }
 
 // A page of a file, if it and every strip of it is sound.
 #[no_mangle]
-pub extern "C" fn hamrisk_directory(file: &[u8], page: usize, found: &mut [usize; 20]) -> u32
+pub extern "C" fn hamrisk_directory(file: &[u8], page: usize, found: &mut [usize; 21]) -> u32
     ensures { λ r. ⌜ Lent foundNumbers (DirectoryRead (now (file .entry)) page) r (now (found .entry)) (now (found .exit)) ⌝ }
 {
     match directory::read_directory(file, page) {

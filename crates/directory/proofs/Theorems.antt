@@ -1,13 +1,14 @@
--- A strip is the part of the file that its place says; where a page is accepted every strip of it is found, and their lengths add up to the
--- layout's scratch length, so that all strips end to end are planes that `render` takes. Assumes nothing.
+-- A strip is the part of the file that its place says; where a page is accepted every strip of it is found, and the lengths of their rows, unpacked
+-- where they are packed, add up to the layout's scratch length, so that all strips end to end are planes that `render` takes. Assumes nothing.
 use Prim.Native.Nat.{_%_, _*_, _+_, _-_, _<_, _≤_, suc, zero, ℕ}
 use Rattle.answer.proofs.Promised.{done-sound, done-value, sound-back, sound-done, sound-front, sound-here, sound-more, sound-rest}
 use Rattle.answer.specs.Outcome.{Sound, done, next, pick, unless}
 use Rattle.answer.specs.declared.ByteAt.{ByteAt}
 use Rattle.directory.proofs.Calls.{inside}
-use Rattle.directory.specs.Page.{Part, StripCut, StripPlaced, cut, pageFaults, pageOf, pageStrips, placeFaults, placeOutcome, placed, readFaults, smaller, stripCount, stripFaults, stripLength, stripPart, stripRows, stripsBy}
+use Rattle.directory.specs.Page.{Part, StripCut, StripPlaced, cut, packedFaults, pageFaults, pageOf, pageStrips, partOf, placeFaults, placeOutcome, placed, readFaults, smaller, stripCount, stripFaults, stripLength, stripPart, stripPlace, stripRows, stripsBy}
 use Rattle.directory.specs.declared.Page.{Page}
 use Rattle.directory.specs.declared.Place.{Place}
+use Rattle.directory.specs.declared.strips.Strips.{Strips}
 use Rattle.entries.specs.Entries.{directory, openFaults}
 use Rattle.entries.specs.declared.Directory.{Directory}
 use Rattle.laws.proofs.Faults.{answered}
@@ -16,9 +17,10 @@ use Rattle.laws.specs.Turns.{sum}
 use Rattle.layout.proofs.Accepted.{Accepted, accepted, up-to-eight}
 use Rattle.layout.specs.Layout.{encodedWidth, planeChannels, planeLength, planes, scratchLength}
 use Rattle.layout.specs.declared.Fields.{Fields}
+use Rattle.packbits.specs.Rows.{packetFaults, rowFaults, rowsFaults}
 use Rattle.tags.proofs.Reading.{StripsSaid, strips-said}
-use Rattle.tags.specs.Tags.{fieldsBy, isPalette, shapeOf, splitOf, stripsOf, stripsPerPlane, tagFaults, tagsBy, tagsOf}
-use borrow.Author.Tests.{eqb-true, le-ltb, lt-leb, lt-ltb, not-false}
+use Rattle.tags.specs.Tags.{PACKBITS, fieldsBy, isPalette, shapeOf, splitOf, stripsOf, stripsPerPlane, tagFaults, tagsBy, tagsOf}
+use borrow.Author.Tests.{eq-eqb, eqb-false, eqb-true, le-ltb, lt-leb, lt-ltb, ne-eqb, not-false}
 use lib.Dec.{eqb}
 use lib.ListN.{drop, length, length-drop, length-take, take}
 use mathlib.Core.Bool.{Bool, false, true}
@@ -44,13 +46,27 @@ module _ (file : List ℕ) (page : ℕ) (p : Page) (taken : unless (readFaults f
   pub page-is : p ≡ pageOf file d
   page-is = sym (done-value (readFaults file page) (pageOf file d) p taken)
 
-  pub strip-sound : (k : ℕ) → k < stripCount file d → Sound (stripFaults file (pageStrips file d) k)
-  strip-sound k h = turn-sound (stripCount file d) (stripFaults file (pageStrips file d)) k h (sound-back (pageFaults file page) _ whole)
+  pub strip-sound : (k : ℕ) → k < p .strips → Sound (stripFaults file (pageStrips file d) k)
+  strip-sound k h = turn-sound (stripCount file d) (stripFaults file (pageStrips file d)) k (rw page-is at h) (sound-back (pageFaults file page) _ whole)
 
   pub every-strip : (k : ℕ) → k < p .strips → placed file page k ≡ done (stripPart file (pageStrips file d) k)
   every-strip k h =
       let some : k < stripCount file d = rw page-is at h in
-      sound-done (stripPart file (pageStrips file d) k) (sound-more (sound-front (pageFaults file page) _ whole) (next (lt-leb (stripCount file d) k some) (strip-sound k some)))
+      sound-done (stripPart file (pageStrips file d) k) (sound-more (sound-front (pageFaults file page) _ whole) (next (lt-leb (stripCount file d) k some) (strip-sound k h)))
+
+  packed-is : pageStrips file d .packbits ≡ eqb (p .compression) PACKBITS
+  unfolding stripsBy
+  packed-is = rw page-is
+
+-- what a strip without a fault has: the length of its rows, if they are not packed; else its rows
+module _ (file : List ℕ) (s : Strips) (k : ℕ) (sound : Sound (stripFaults file s k)) where
+  plain-length : s .packbits ≡ false → stripLength file s k ≡ stripRows (s .rows) (s .each) k * s .row
+  unfolding stripFaults
+  plain-length e = eqb-true _ _ (not-false _ (rw e at (sound-here sound)))
+
+  packed-rows : s .packbits ≡ true → Sound (packedFaults file s k)
+  unfolding stripFaults
+  packed-rows e = rw e at (sound-rest (sound-rest sound))
 
 -- the rows of the strips of a plane: so far, the page's rows or as many as the strips would hold
 rows-so-far : (rows each q : ℕ) → sum q (λ j. smaller each (rows - j * each)) ≡ rows - (rows - q * each)
@@ -119,16 +135,28 @@ module _ (file : List ℕ) (page : ℕ) (sound : Sound (pageFaults file page)) w
   unfolding pageFaults
   page-layout = accepted (tagsOf file (directory file page) .fields) (sound-back (tagFaults file page) _ sound)
 
--- where a page is accepted, its strips end to end are as long as its planes
-pub lengths : (file : List ℕ) (page : ℕ) (p : Page) → unless (readFaults file page) (pageOf file (directory file page)) ≡ done p → sum (p .strips) (stripLength file (pageStrips file (directory file page))) ≡ p .layout .«scratch_len»
-unfolding stripFaults
-lengths file page p taken =
-    let d = directory file page in
-    let s = pageStrips file d in
-    let sound = sound-front (pageFaults file page) _ (done-sound (readFaults file page) (pageOf file d) p taken) in
-    rw (page-is file page p taken)
-    (sum-same (s .offsets .count) (stripLength file s) (λ k. stripRows (s .rows) (s .each) k * s .row) (λ k h. eqb-true _ _ (not-false _ (sound-here (strip-sound file page p taken k h))))
-    ∙ strips-fill file d (page-layout file page sound) (page-said file page sound))
+-- where a page is accepted, the rows of its strips are as long as its planes
+module _ (file : List ℕ) (page : ℕ) (p : Page) (taken : unless (readFaults file page) (pageOf file (directory file page)) ≡ done p) where
+  abbrev strips : Strips
+  strips = pageStrips file (directory file page)
+
+  pub rows-add-up : sum (p .strips) (λ k. stripRows (strips .rows) (strips .each) k * strips .row) ≡ p .layout .«scratch_len»
+  rows-add-up =
+      let sound = sound-front (pageFaults file page) _ (whole file page p taken) in
+      rw (page-is file page p taken) (strips-fill file (directory file page) (page-layout file page sound) (page-said file page sound))
+
+  -- and so are the strips end to end, if they are not packed
+  pub lengths : (p .compression ≡ PACKBITS → ⊥) → sum (p .strips) (stripLength file strips) ≡ p .layout .«scratch_len»
+  lengths plain =
+      let not-packed = packed-is file page p taken ∙ ne-eqb (p .compression) PACKBITS plain in
+      sum-same (p .strips) (stripLength file strips) (λ k. stripRows (strips .rows) (strips .each) k * strips .row) (λ k h. plain-length file strips k (strip-sound file page p taken k h) not-packed)
+      ∙ rows-add-up
+
+  -- if they are, what `strip` hands out are its rows and nothing else
+  pub strip-rows-sound : p .compression ≡ PACKBITS → (k : ℕ) (s : List ℕ) → k < p .strips → StripCut file page k s → Sound (rowsFaults s (stripRows (strips .rows) (strips .each) k) (strips .row))
+  strip-rows-sound packed k s h q =
+      let s-is : s ≡ partOf file (stripPart file strips k) = q ∙ ap (cut file) (every-strip file page p taken k h) in
+      rw s-is (packed-rows file strips k (strip-sound file page p taken k h) (packed-is file page p taken ∙ eq-eqb (p .compression) PACKBITS packed))
 
 -- a strip that is there has some rows, and its rows some bytes
 rows-left : (rows each per q : ℕ) → 0 < rows → 0 < each → rows ≤ per * each → per * each ≤ rows + (each - 1) → (0 < per → q < per) → 0 < rows - q * each
@@ -156,23 +184,38 @@ some-row f a = mul-pos {m = encodedWidth f} {n = planeChannels f} (omega arith) 
     by false true e d = rw (e, d) (up-to-eight (a .bytes) .0)
     by false false e d = rw (e, d) (mul-pos (a .some) (up-to-eight (a .bytes) .0))
 
-some-bytes : (file : List ℕ) (d : Directory) (k : ℕ) → Accepted (tagsOf file d .fields) → StripsSaid (shapeOf file d) (splitOf file d) → let s = pageStrips file d in 0 < stripRows (s .rows) (s .each) k * s .row
+some-size : (file : List ℕ) (d : Directory) (k : ℕ) → Accepted (tagsOf file d .fields) → StripsSaid (shapeOf file d) (splitOf file d) → let s = pageStrips file d in (0 < stripRows (s .rows) (s .each) k) × (0 < s .row)
 unfolding stripsBy tagsBy fieldsBy
-some-bytes file d k a said =
-    mul-pos (some-rows (shapeOf file d .height .value) (splitOf file d .rows .value) k (a .high) (said .some)) (some-row (tagsOf file d .fields) a)
+some-size file d k a said =
+    (some-rows (shapeOf file d .height .value) (splitOf file d .rows .value) k (a .high) (said .some), some-row (tagsOf file d .fields) a)
+
+-- such rows are not read from nothing
+rows-some : (packed : List ℕ) (rows n : ℕ) → 0 < rows → 0 < n → Sound (rowsFaults packed rows n) → 0 < length packed
+unfolding packetFaults
+rows-some packed zero n some bytes sound = absurd (omega arith)
+rows-some packed (suc rows) n some bytes sound =
+    let packets = rw (ne-eqb n 0 (λ z. omega arith)) at (sound-front (rowFaults packed n) _ sound) in
+    let there : length packed ≡ 0 → ⊥ = eqb-false (length packed) 0 (sound-here packets) in omega (arith, there)
+
+some-length : (file : List ℕ) (s : Strips) (k : ℕ) → 0 < stripRows (s .rows) (s .each) k → 0 < s .row → Sound (stripFaults file s k) → 0 < stripLength file s k
+some-length file s k rows row sound = by (s .packbits) refl
+  where
+    by : (b : Bool) → s .packbits ≡ b → 0 < stripLength file s k
+    by true e =
+        let some = rows-some (partOf file (stripPart file s k)) (stripRows (s .rows) (s .each) k) (s .row) rows row (packed-rows file s k sound e) in
+        omega (arith, some, length-take (stripLength file s k) (drop (stripPlace file s k) file))
+    by false e = rw (plain-length file s k sound e) (mul-pos rows row)
 
 -- so a strip that is found is not empty: `strip` is empty exactly on refusal
 pub strip-some : (file : List ℕ) (page k : ℕ) (r : Place) (s : List ℕ) (at : ByteAt) (n : ℕ) → StripPlaced file page k r → StripCut file page k s → r ≡ Place-is.At at n → (length s ≡ n) × (0 < n)
-unfolding stripFaults
 strip-some file page k r s at n p q e =
     let d = directory file page in
     let strips = pageStrips file d in
     let found = answered placeOutcome (placeFaults file page k) (stripPart file strips k) p e refl in
-    let all = found .1 in
-    let sound = sound-front (pageFaults file page) _ all in
-    let right : stripLength file strips k ≡ stripRows (strips .rows) (strips .each) k * strips .row = eqb-true _ _ (not-false _ (sound-here (sound-rest (sound-back (pageFaults file page) _ all)))) in
-    let some = some-bytes file d k (page-layout file page sound) (page-said file page sound) in
+    let sound = sound-front (pageFaults file page) _ (found .1) in
+    let size = some-size file d k (page-layout file page sound) (page-said file page sound) in
+    let some = some-length file strips k (size .0) (size .1) (sound-rest (sound-back (pageFaults file page) _ (found .1))) in
     let n-is : n ≡ stripLength file strips k = ap (λ (x : Part). x .bytes) (found .0) in
     let room = inside file page k r p at n e in
     let s-is : s ≡ take n (drop (at .0) file) = strip-is file page k r s p q ∙ ap (λ (x : Place). cut file (placeOutcome x)) e in
-    (rw s-is (simp (length-take, length-drop) (omega arith)), omega (arith, right, some, n-is))
+    (rw s-is (simp (length-take, length-drop) (omega arith)), omega (arith, some, n-is))

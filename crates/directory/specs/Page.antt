@@ -1,7 +1,7 @@
 -- A page: its layout, its strips and their faults (rules 14.10 and 14.11), and what the calls promise (14.12 to 14.15). Assumes nothing.
 use Prim.Native.Nat.{ℕ, _+_, _-_, _*_, _/_, _%_}
 use mathlib.Core.Path.{_≡_}
-use mathlib.Core.Bool.{not}
+use mathlib.Core.Bool.{not, _&&_}
 use mathlib.Core.List.{List, [], _∷_, _++_}
 use lib.ListN.{length, take, drop}
 use lib.Dec.{eqb, ltb, leb}
@@ -10,10 +10,11 @@ use Rattle.answer.specs.Outcome.{Outcome, done, refused, Fault, unless, invalid
 use Rattle.answer.specs.Table.{table}
 use Rattle.laws.specs.Turns.{faultsBelow}
 use Rattle.layout.specs.Layout.{encodedWidth, planeChannels, layoutFaults, completed}
+use Rattle.packbits.specs.Rows.{rowsFaults}
 use Rattle.entries.specs.declared.Directory.{Directory}
 use Rattle.entries.specs.Entries.{directory, valueOf}
 use Rattle.tags.specs.declared.Tags.{Tags}
-use Rattle.tags.specs.Tags.{stripsPerPlane, tagsOf, tagFaults}
+use Rattle.tags.specs.Tags.{PACKBITS, stripsPerPlane, tagsOf, tagFaults}
 use Rattle.directory.specs.declared.strips.Strips.{Strips}
 use Rattle.directory.specs.declared.Page.{Page}
 use Rattle.directory.specs.declared.Found.{Found}
@@ -32,7 +33,7 @@ smaller a b = pick (ltb a b) a b
 unfoldable pub stripRows : ℕ → ℕ → ℕ → ℕ
 stripRows rows each k = smaller each (rows - k % stripsPerPlane rows each * each)
 
--- what strips are found by: 273 and 279, the rows of the page and of a strip, and the bytes of a row
+-- what strips are found by: 273 and 279, the rows of the page and of a strip, the bytes of a row, and whether rows are packed
 unfoldable pub stripsBy : Tags → Strips
 stripsBy t =
     record {
@@ -42,6 +43,7 @@ stripsBy t =
       rows = t .rows;
       each = t .each;
       row = encodedWidth (t .fields) * planeChannels (t .fields);
+      packbits = eqb (t .compression) PACKBITS;
     }
 
 abbrev pub pageStrips : List ℕ → Directory → Strips
@@ -53,11 +55,29 @@ stripPlace file s k = valueOf file (s .le) (s .offsets) k
 abbrev pub stripLength : List ℕ → Strips → ℕ → ℕ
 stripLength file s k = valueOf file (s .le) (s .counts) k
 
-unfoldable pub stripFaults : List ℕ → Strips → ℕ → List Fault
-stripFaults file s k =
-    invalid (not (eqb (stripLength file s k) (stripRows (s .rows) (s .each) k * s .row)))
+pub record Part : Type 0 where
+  pub at : ℕ
+  pub bytes : ℕ
+
+abbrev pub stripPart : List ℕ → Strips → ℕ → Part
+stripPart file s k = record { at = stripPlace file s k; bytes = stripLength file s k }
+
+-- the bytes of a part of the file
+abbrev pub partOf : List ℕ → Part → List ℕ
+partOf file p = take (p .bytes) (drop (p .at) file)
+
+-- the faults of strip k: its length, which is free if its rows are packed, and room; then, if they are packed, theirs
+abbrev pub partFaults : List ℕ → Strips → ℕ → List Fault
+partFaults file s k =
+    invalid (not (s .packbits) && not (eqb (stripLength file s k) (stripRows (s .rows) (s .each) k * s .row)))
     ∷ truncated (ltb (length file) (stripPlace file s k + stripLength file s k))
     ∷ []
+
+abbrev pub packedFaults : List ℕ → Strips → ℕ → List Fault
+packedFaults file s k = rowsFaults (partOf file (stripPart file s k)) (stripRows (s .rows) (s .each) k) (s .row)
+
+unfoldable pub stripFaults : List ℕ → Strips → ℕ → List Fault
+stripFaults file s k = partFaults file s k ++ pick (s .packbits) (packedFaults file s k) []
 
 -- how many there are: 273's count, which 284's contradiction has held against the rows
 abbrev pub stripCount : List ℕ → Directory → ℕ
@@ -84,14 +104,8 @@ pageOf file d =
       layout = completed (tagsOf file d .fields);
       predictor = tagsOf file d .predictor;
       strips = stripCount file d;
+      compression = tagsOf file d .compression;
     }
-
-pub record Part : Type 0 where
-  pub at : ℕ
-  pub bytes : ℕ
-
-abbrev pub stripPart : List ℕ → Strips → ℕ → Part
-stripPart file s k = record { at = stripPlace file s k; bytes = stripLength file s k }
 
 abbrev pub foundOutcome : Found → Outcome Page
 foundOutcome (Found-is.Found p) = done p
@@ -103,7 +117,7 @@ placeOutcome (Place-is.Refused k) = refused (number k)
 
 -- the part of the file that an outcome says, nothing on a refusal
 abbrev pub cut : List ℕ → Outcome Part → List ℕ
-cut file (done p) = take (p .bytes) (drop (p .at) file)
+cut file (done p) = partOf file p
 cut file (refused n) = []
 
 -- number i of all strips' parts: places and lengths by turns

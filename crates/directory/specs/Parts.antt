@@ -23,7 +23,7 @@ SmallRow l = l .«encoded_width» * l .«plane_channels» < 4294967296
 
 -- a page past every fault but its strips'
 abbrev pub wholeBy : Tags → Whole
-wholeBy t = record { layout = completed (t .fields); predictor = t .predictor; strips = stripsBy t }
+wholeBy t = record { layout = completed (t .fields); predictor = t .predictor; compression = t .compression; strips = stripsBy t }
 
 abbrev pub openingOutcome : Opening → Outcome Whole
 openingOutcome (Opening-is.Page w) = done w
@@ -34,7 +34,8 @@ PageOpened file page answer = openingOutcome answer ≡ unless (pageFaults file 
 
 -- what a page with sound strips answers
 abbrev pub pageBy : Whole → Page
-pageBy w = record { layout = w .layout; predictor = w .predictor; strips = w .strips .offsets .count }
+pageBy w =
+    record { layout = w .layout; predictor = w .predictor; strips = w .strips .offsets .count; compression = w .compression }
 
 -- one strip, and all strips' places and lengths, of a page past its other faults
 abbrev pub OnePlaced : List ℕ → Strips → ℕ → Place → Type 0

@@ -1,4 +1,4 @@
-// A page of a TIFF file: its layout, its predictor, and where its strips stand.
+// A page of a TIFF file: its layout, its predictor, its compression, and where its strips stand.
 use answer::ByteAt;
 use answer::Done;
 use answer::Refusal;
@@ -21,11 +21,13 @@ ghost use Rattle.answer.specs.Outcome.{unless};
 ghost use Rattle.directory.specs.Page.{stripsFaults, foundOutcome, DirectoryRead, StripPlaced, StripCut, StripsPlaced};
 ghost use Rattle.directory.specs.Parts.{pageBy, OnePlaced, PartsPlaced};
 
-// A page: its layout, how its rows were predicted (1: not; 2: by the sample before), and how many strips it has.
+// A page: its layout, how its rows were predicted (1: not; 2: by the sample before), how many strips it has, and how they are
+// compressed (1: not; 32773: PackBits).
 pub struct Page {
     pub layout: RasterLayout,
     pub predictor: usize,
     pub strips: usize,
+    pub compression: usize,
 }
 
 // The answer of `read_directory`.
@@ -57,6 +59,7 @@ fn page_by(w: Whole) -> Page
         layout,
         predictor: w.predictor,
         strips,
+        compression: w.compression,
     }
 }
 

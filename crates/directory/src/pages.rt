@@ -1,4 +1,4 @@
-// A page past every fault but its strips': its layout, its predictor, and what its strips are found by.
+// A page past every fault but its strips': its layout, its predictor, its compression, and what its strips are found by.
 use crate::strips::Strips;
 use answer::Refusal;
 use layout::Checked;
@@ -15,6 +15,7 @@ ghost use Rattle.directory.specs.Parts.{SmallRow, openingOutcome, wholeB
 pub(crate) struct Whole {
     pub layout: RasterLayout,
     pub predictor: usize,
+    pub compression: usize,
     pub strips: Strips,
 }
 
@@ -44,6 +45,7 @@ fn strips_by(t: Tags, l: RasterLayout) -> Strips
         rows: t.rows,
         each: t.each,
         row: row_bytes(l),
+        packbits: t.compression == 32773,
     }
 }
 
@@ -57,6 +59,7 @@ fn lay_out(t: Tags) -> Opening
         Checked::Done(l) => Opening::Page(Whole {
             layout: l,
             predictor: t.predictor,
+            compression: t.compression,
             strips: strips_by(t, l),
         }),
     }

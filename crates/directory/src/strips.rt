@@ -5,17 +5,20 @@ use answer::fault;
 use answer::first_of;
 use entries::Field;
 use entries::value;
+use packbits::check_rows;
 use tags::strips_per_plane;
 ghost use mathlib.Core.Path.{_≡_};
 ghost use Prim.Native.Nat.{_+_, _-_, _*_, _%_, _≤_, _<_};
+ghost use mathlib.Core.List.{[]};
 ghost use lib.ListN.{length};
 ghost use lib.Dec.{eqb};
 ghost use Rattle.answer.specs.Outcome.{pick, Step};
 ghost use Rattle.answer.specs.Table.{filled};
+ghost use Rattle.packbits.specs.Rows.{rowsFaults};
 ghost use Rattle.tags.specs.Tags.{stripsPerPlane};
 ghost use Rattle.directory.specs.Page.{smaller, stripPlace, stripLength, stripFaults, stripsFaults, partNumber};
 
-// What strips are found by: their places and lengths, the rows of the page and of a strip, and the bytes of a row.
+// What strips are found by: their places and lengths, the rows of the page and of a strip, the bytes of a row, and whether rows are packed.
 pub(crate) struct Strips {
     pub le: bool,
     pub offsets: Field,
@@ -23,6 +26,7 @@ pub(crate) struct Strips {
     pub rows: u32,
     pub each: u32,
     pub row: u32,
+    pub packbits: bool,
 }
 
 // The rows of a strip, which is the turn-th of its plane.
@@ -63,6 +67,16 @@ pub(crate) fn length_of(file: &[u8], s: Strips, k: u32) -> u32
     value(file, s.le, counts, k)
 }
 
+// The rows of a strip, which are read if they are packed.
+fn check_packed(packed: bool, strip: &[u8], rows: u32, row: u32) -> Done
+    ensures { λ r. ⌜ Step (pick packed (rowsFaults (now (strip .entry)) rows row) []) r ⌝ }
+{
+    match packed {
+        true => check_rows(strip, rows as usize, row as usize),
+        false => Done::Done,
+    }
+}
+
 // Strip k, which is the turn-th of its plane.
 fn check_turn(file: &[u8], s: Strips, k: u32, turn: u32) -> Done
     requires { ⌜ turn ≡ k % stripsPerPlane (s .rows) (s .each) ⌝ }
@@ -70,11 +84,18 @@ fn check_turn(file: &[u8], s: Strips, k: u32, turn: u32) -> Done
 {
     let at = place_of(file, s, k) as usize;
     let bytes = length_of(file, s, k) as usize;
-    let right = times(rows_at(s.rows, s.each, turn), s.row);
-    first_of(
-        fault(bytes != right, Refusal::Invalid),
+    let rows = rows_at(s.rows, s.each, turn);
+    let right = times(rows, s.row);
+    match first_of(
+        fault(!s.packbits & (bytes != right), Refusal::Invalid),
         fault(file.len() < at + bytes, Refusal::Truncated),
-    )
+    ) {
+        Done::Refused(r) => Done::Refused(r),
+        Done::Done => {
+            let end = at + bytes;
+            check_packed(s.packbits, &file[at..end], rows, s.row)
+        }
+    }
 }
 
 fn rest(k: u32, per: u32) -> u32

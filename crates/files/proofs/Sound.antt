@@ -18,7 +18,7 @@ use Rattle.layout.specs.Layout.{scratchLength, planes}
 use Rattle.layout.proofs.Accepted.{Accepted}
 use Rattle.entries.specs.declared.Directory.{Directory}
 use Rattle.entries.specs.Entries.{valueOf, fieldOf}
-use Rattle.tags.specs.Tags.{shapeOf, splitOf, extrasOf, depthOf, bitsFaults, shapeFaults, samplesOf, stripsOf, samplesFaults, planarFaults, splitFaults, predictorFaults, mapFaults, extraFaults, extrasFaults, fieldsBy, tagsBy, tagsOf, depth, saidFaults}
+use Rattle.tags.specs.Tags.{shapeOf, splitOf, extrasOf, depthOf, bitsFaults, servedCompression, shapeFaults, samplesOf, stripsOf, samplesFaults, planarFaults, splitFaults, predictorFaults, mapFaults, extraFaults, extrasFaults, fieldsBy, tagsBy, tagsOf, depth, saidFaults}
 use Rattle.files.specs.File.{strips, bitsOf, photometric, planar, fileOf, withoutMap}
 use Rattle.files.specs.Parts.{Fit}
 use Rattle.files.proofs.Sizes.{fields-accepted, strips-some}
@@ -57,7 +57,7 @@ module _ (f : Fields) (each : ℕ) (raw : List ℕ) (fit : Fit f each) (all : sc
   shape-sound : Sound (shapeFaults file true (shapeOf file d))
   unfolding shapeFaults shapeOf
   shape-sound =
-      let other : not (eqb (fieldOf file d 259 1 .value) 1) ≡ false = rw (compression f each raw fit all .value) in
+      let other : not (servedCompression (fieldOf file d 259 1 .value)) ≡ false = rw (compression f each raw fit all .value) in
       let unknown : ltb 3 (fieldOf file d 262 0 .value) ≡ false = rw (colours f each raw fit all .value) (le-ltb 3 (photometric f) (omega (arith, coloured f (k .channels) .few))) in
       sound-more (sure-sound true true false (width f each raw fit all .sure) refl refl)
       (sound-more (sure-sound true true false (height f each raw fit all .sure) refl refl)
@@ -144,8 +144,8 @@ module _ (f : Fields) (each : ℕ) (raw : List ℕ) (fit : Fit f each) (all : sc
       by true = refl
       by false = refl
 
-  pub tags-back : tagsOf file d ≡ record { fields = withoutMap f; predictor = 1; rows = f .h; each = each; offsets = fieldOf file d 273 0; counts = fieldOf file d 279 0 }
+  pub tags-back : tagsOf file d ≡ record { fields = withoutMap f; predictor = 1; compression = 1; rows = f .h; each = each; offsets = fieldOf file d 273 0; counts = fieldOf file d 279 0 }
   unfolding tagsBy fieldsBy shapeOf splitOf extrasOf
   tags-back =
       let means = bits-mean f (k .samples) .0 in
-      rw (depth-is, not-palette, width f each raw fit all .value, height f each raw fit all .value, samples f each raw fit all .value, colours f each raw fit all .value, rows f each raw fit all .1, apart f each raw fit all .value, predictor f each raw fit all .value, extra f each raw fit all .value, means .0, means .1, planar-back, coloured f (k .channels) .white, k .plain, k .little)
+      rw (depth-is, not-palette, width f each raw fit all .value, height f each raw fit all .value, samples f each raw fit all .value, colours f each raw fit all .value, rows f each raw fit all .1, apart f each raw fit all .value, predictor f each raw fit all .value, compression f each raw fit all .value, extra f each raw fit all .value, means .0, means .1, planar-back, coloured f (k .channels) .white, k .plain, k .little)

@@ -71,7 +71,7 @@ module _ (f : Fields) (each : ℕ) (planes : List ℕ) (fit : Fit f each) (all :
   -- what the tags say
   abbrev told : Tags
   told =
-      record { fields = withoutMap f; predictor = 1; rows = f .h; each = each; offsets = fieldOf file d 273 0; counts = fieldOf file d 279 0 }
+      record { fields = withoutMap f; predictor = 1; compression = 1; rows = f .h; each = each; offsets = fieldOf file d 273 0; counts = fieldOf file d 279 0 }
 
   tags-are : tagsOf file (Entries.directory file 0) ≡ told
   tags-are = ap (tagsOf file) (directory-is f each planes fit all) ∙ tags-back f each planes fit all
@@ -107,8 +107,8 @@ module _ (f : Fields) (each : ℕ) (planes : List ℕ) (fit : Fit f each) (all :
 
   page-back : pageOf file (Entries.directory file 0) ≡ pageBack f each
   page-back =
-      let by-tags : Tags → Page = λ t. record { layout = completed (t .fields); predictor = t .predictor; strips = stripsBy t .offsets .count } in
-      let by-count : ℕ → Page = λ n. record { layout = completed (withoutMap f); predictor = 1; strips = n } in
+      let by-tags : Tags → Page = λ t. record { layout = completed (t .fields); predictor = t .predictor; strips = stripsBy t .offsets .count; compression = t .compression } in
+      let by-count : ℕ → Page = λ n. record { layout = completed (withoutMap f); predictor = 1; strips = n; compression = 1 } in
       ap by-tags tags-are ∙ ap by-count count-back
 
   taken : unless (readFaults file 0) (pageOf file (Entries.directory file 0)) ≡ done (pageBack f each)

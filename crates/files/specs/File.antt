@@ -187,13 +187,13 @@ abbrev pub FileWritten : RasterLayout → ℕ → List ℕ → List ℕ → Writ
 FileWritten l each planes old answer new =
     Promise (unless (writeFaults l each planes old) (fileLength (l .fields) each)) (fileOf (l .fields) each planes) old (writtenOutcome answer) new
 
--- the page that the reader finds in the file: the layout with a map of 0, no prediction, all strips
+-- the page that the reader finds in the file: the layout with a map of 0, no prediction, all strips, no compression
 abbrev pub withoutMap : Fields → Fields
 withoutMap f =
     record { w = f .w; h = f .h; ch = f .ch; bytes = f .bytes; slots = f .slots; palette = f .palette; separate = f .separate; le = f .le; white = f .white; alpha = f .alpha; map = 0 }
 
 abbrev pub pageBack : Fields → ℕ → Page
-pageBack f each = record { layout = completed (withoutMap f); predictor = 1; strips = strips f each }
+pageBack f each = record { layout = completed (withoutMap f); predictor = 1; strips = strips f each; compression = 1 }
 
 abbrev pub stripBack : Fields → ℕ → List ℕ → ℕ → List ℕ
 stripBack f each planes k = take (stripBytes f each k) (drop (stripStart f each k) planes)

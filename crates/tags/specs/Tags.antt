@@ -77,6 +77,13 @@ bitsFaults file le f =
     fieldFaults (length file) optional shorts several f
     ++ (unsupported (f .there && not (allEqual file le f)) ∷ unsupported (not (servedDepth (depthOf file le f))) ∷ [])
 
+-- none, or PackBits
+abbrev pub PACKBITS : ℕ
+PACKBITS = 32773
+
+abbrev pub servedCompression : ℕ → Bool
+servedCompression compression = eqb compression 1 || eqb compression PACKBITS
+
 unfoldable pub shapeFaults : List ℕ → Bool → Shape → List Fault
 shapeFaults file le s =
     let size = length file in
@@ -84,7 +91,7 @@ shapeFaults file le s =
     ++ (fieldFaults size required longs one (s .height)
     ++ (bitsFaults file le (s .bits)
     ++ (fieldFaults size optional shorts one (s .compression)
-    ++ (unsupported (not (eqb (s .compression .value) 1))
+    ++ (unsupported (not (servedCompression (s .compression .value)))
     ∷ (fieldFaults size required shorts one (s .photometric) ++ (unsupported (ltb 3 (s .photometric .value)) ∷ []))))))
 
 -- 273 to 284. The samples that 262 has, and one more with an extra sample; the strips of a plane, and of all
@@ -181,6 +188,7 @@ tagsBy le s t depth x =
     record {
       fields = fieldsBy le s t depth x;
       predictor = x .predictor .value;
+      compression = s .compression .value;
       rows = s .height .value;
       each = t .rows .value;
       offsets = t .offsets;

@@ -21,10 +21,11 @@ ghost use Rattle.entries.specs.Parts.{Room};
 ghost use Rattle.tags.specs.Tags.{stripsPerPlane, sampleBytes, samplesInByte, fieldsBy, tagsBy, TagsRead};
 ghost use Rattle.tags.specs.Parts.{Shaped, LaterRead, UsedRead};
 
-// What a page's tags say: its layout, its predictor, its rows and those of a strip, and where its strips' places and lengths stand.
+// What a page's tags say: its layout, its predictor, its compression, its rows and those of a strip, and where its strips' places and lengths stand.
 pub struct Tags {
     pub fields: Fields,
     pub predictor: usize,
+    pub compression: usize,
     pub rows: u32,
     pub each: u32,
     pub offsets: Field,
@@ -102,11 +103,13 @@ fn tags_of(le: bool, s: Shape, t: Split, depth: u32, x: Extras) -> Tags
 {
     let fields = fields_of(le, s, t, depth, x);
     let predictor = wide(x.predictor.value);
+    let compression = wide(s.compression.value);
     let offsets = t.offsets;
     let counts = t.counts;
     Tags {
         fields,
         predictor,
+        compression,
         rows: s.height.value,
         each: t.rows.value,
         offsets,

@@ -10,7 +10,7 @@ use entries::field_from;
 use entries::value;
 ghost use mathlib.Core.Path.{_≡_};
 ghost use Rattle.answer.specs.Outcome.{Step};
-ghost use Rattle.tags.specs.Tags.{shapeOf, depthOf, allEqual, servedDepth, bitsFaults, shapeFaults};
+ghost use Rattle.tags.specs.Tags.{shapeOf, depthOf, allEqual, servedDepth, bitsFaults, servedCompression, shapeFaults};
 ghost use Rattle.entries.specs.Parts.{Room};
 
 pub(crate) struct Shape {
@@ -84,6 +84,12 @@ fn check_bits(file: &[u8], le: bool, f: Field) -> Done
     }
 }
 
+fn served_compression(compression: u32) -> bool
+    ensures { λ r. ⌜ r ≡ servedCompression compression ⌝ }
+{
+    (compression == 1) | (compression == 32773)
+}
+
 pub(crate) fn check_shape(file: &[u8], le: bool, s: Shape) -> Done
     ensures { λ r. ⌜ Step (shapeFaults (now (file .entry)) le s) r ⌝ }
 {
@@ -92,10 +98,13 @@ pub(crate) fn check_shape(file: &[u8], le: bool, s: Shape) -> Done
     let height = check_field(size, true, true, false, s.height);
     let bits = check_bits(file, le, s.bits);
     let compression = check_field(size, false, false, false, s.compression);
-    let none = fault(s.compression.value != 1, Refusal::Unsupported);
+    let served = fault(
+        !served_compression(s.compression.value),
+        Refusal::Unsupported,
+    );
     let photometric = check_field(size, true, false, false, s.photometric);
     let known = fault(3 < s.photometric.value, Refusal::Unsupported);
-    let from_none = first_of(none, first_of(photometric, known));
-    let from_bits = first_of(bits, first_of(compression, from_none));
+    let from_served = first_of(served, first_of(photometric, known));
+    let from_bits = first_of(bits, first_of(compression, from_served));
     first_of(width, first_of(height, from_bits))
 }

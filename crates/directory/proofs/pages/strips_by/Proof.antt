@@ -10,9 +10,10 @@ use Rattle.directory.proofs.pages.strips_by.Tie as tie
 returns : tie.Need-returns
 unfolding stripsBy
 returns c =
-    let start = c .before .before .before in
+    let row = c .before in
+    let start = row .before .before .before in
     let is : start .args .l .«encoded_width» * start .args .l .«plane_channels» ≡ encodedWidth (start .args .t .fields) * planeChannels (start .args .t .fields) = ap (λ (r : RasterLayout). r .«encoded_width» * r .«plane_channels») (start .pre .0) in
-    rw (c .row-bytes .ensures, is)
+    rw (row .row-bytes .ensures, is)
 
 pub strips-by-spec : {M : Type 1} → statement M
 strips-by-spec =
