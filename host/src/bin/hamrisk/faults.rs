@@ -3,7 +3,7 @@
 use crate::failure::Fault;
 use hamrisk::limits::{self, Served, MOST_PICTURE_BYTES, MOST_SIDE, MOST_STRIP_BYTES};
 use hamrisk::Refusal::{self, Invalid, Limit, Truncated, Unsupported};
-use hamrisk::{check_layout, ByteOrder, Layout, Strip};
+use hamrisk::{check_layout, explain_row, ByteOrder, Layout, Strip};
 
 /// A fault, if it is one.
 fn fault(holds: bool, refusal: Refusal, text: impl Into<String>) -> Option<Fault> {
@@ -58,6 +58,18 @@ pub fn of_swap(length: usize, width: usize) -> Option<Fault> {
         unserved("width", width, limits::SWAP_WIDTHS),
         fault(ragged(length, width), Invalid, format!("length {length} is no multiple of width {width}")),
     ])
+}
+
+/// Of bytes that are to be rows.
+pub fn of_rows(length: usize, row_bytes: usize) -> Option<Fault> {
+    let left = length % row_bytes;
+    fault(left > 0, Invalid, format!("length {length} is no multiple of row bytes {row_bytes}: {left} left over"))
+}
+
+/// Of a packed row that begins at byte `at`.
+pub fn of_packed_row(packed: &[u8], at: usize, row: usize, row_bytes: usize) -> Option<Fault> {
+    let fault = explain_row(packed, at, row_bytes).err()?;
+    Some((fault.refusal(), format!("row {row}, from byte {at}: {fault}")))
 }
 
 fn of_layout(l: &Layout) -> Option<Fault> {

@@ -1,0 +1,105 @@
+//! How a row is cut into PackBits packets.
+
+/// The most bytes of a row that a packet has.
+const MOST: usize = 128;
+
+/// How many equal bytes are worth a repeat of their own: two cost no less than they do within a literal.
+const WORTH_A_REPEAT: usize = 3;
+
+/// A packet of a [`Plan`], and of how many bytes of the row it is.
+#[derive(Clone, Copy, Debug, PartialEq, Eq, Hash)]
+pub enum Packet {
+    /// 1 to 128 bytes as they are.
+    Literal(u8),
+    /// 2 to 128 bytes that are all equal.
+    Repeat(u8),
+}
+
+/// How a row is packed by [`write_plan`](crate::write_plan): its packets, one after the other. Any may be put into a plan; whether
+/// they fit a row is seen when it is written.
+#[derive(Clone, Debug, Default, PartialEq, Eq, Hash)]
+pub struct Plan {
+    /// The header's `kinds` and `lengths`, one of each for a packet.
+    kinds: Vec<u8>,
+    lengths: Vec<u8>,
+}
+
+impl Plan {
+    /// A plan that fits this row: a repeat wherever three bytes or more are equal, and literals between them.
+    ///
+    /// ```
+    /// use hamrisk::{Packet, Plan};
+    ///
+    /// let packets = [Packet::Literal(4), Packet::Repeat(3), Packet::Literal(1)];
+    /// assert_eq!(Plan::of(&[7, 7, 8, 8, 9, 9, 9, 7]), packets.into_iter().collect());
+    /// ```
+    pub fn of(row: &[u8]) -> Plan {
+        let mut plan = Plan::default();
+        let (mut from, mut at) = (0, 0);
+        while at < row.len() {
+            let equal = row[at..].iter().take(MOST).take_while(|byte| **byte == row[at]).count();
+            if equal >= WORTH_A_REPEAT {
+                plan.push_literals(at - from);
+                plan.push(Packet::Repeat(equal as u8));
+                from = at + equal;
+            }
+            at += equal;
+        }
+        plan.push_literals(at - from);
+        plan
+    }
+
+    /// Literals of so many bytes together.
+    fn push_literals(&mut self, mut bytes: usize) {
+        while bytes > 0 {
+            let first = bytes.min(MOST);
+            self.push(Packet::Literal(first as u8));
+            bytes -= first;
+        }
+    }
+
+    /// Puts a packet behind the others.
+    pub fn push(&mut self, packet: Packet) {
+        let (kind, length) = match packet {
+            Packet::Literal(bytes) => (0, bytes),
+            Packet::Repeat(bytes) => (1, bytes),
+        };
+        self.kinds.push(kind);
+        self.lengths.push(length);
+    }
+
+    /// The bytes that its packets are written as: one more than its own for a literal, two for a repeat.
+    pub fn length(&self) -> usize {
+        let packets = self.kinds.iter().zip(&self.lengths);
+        packets.map(|(&kind, &bytes)| if kind == 0 { 1 + usize::from(bytes) } else { 2 }).sum()
+    }
+
+    /// What the header calls `kinds` and `lengths`; both have a byte for each packet.
+    pub(crate) fn kinds_and_lengths(&self) -> (&[u8], &[u8]) {
+        (&self.kinds, &self.lengths)
+    }
+}
+
+impl Extend<Packet> for Plan {
+    fn extend<T: IntoIterator<Item = Packet>>(&mut self, packets: T) {
+        packets.into_iter().for_each(|packet| self.push(packet));
+    }
+}
+
+impl FromIterator<Packet> for Plan {
+    fn from_iter<T: IntoIterator<Item = Packet>>(packets: T) -> Plan {
+        let mut plan = Plan::default();
+        plan.extend(packets);
+        plan
+    }
+}
+
+/// The bytes that [`pack_row`](crate::pack_row) writes of a row of so many bytes, and the most that [`packed`](crate::packed) does:
+/// one more for each 128 that it begins.
+///
+/// ```
+/// assert_eq!([0, 1, 128, 129].map(hamrisk::packed_length), [0, 2, 129, 131]);
+/// ```
+pub fn packed_length(row_bytes: usize) -> usize {
+    row_bytes + row_bytes.div_ceil(MOST)
+}
