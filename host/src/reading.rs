@@ -825,11 +825,12 @@ mod tests {
         let (compression, strips) = (Compression::PackBits, vec![(200, 8), (208, 2)]);
         assert_eq!(explain(&good, 0), Ok(Reading { layout, predictor: 1, compression, strips }));
         assert_eq!(explain_layout(&good, 0), Ok((layout, 1, compression, 2)));
-        let text = "strip 0: row 1, from byte 202: the packet at byte 204 has 3 bytes, and 2 are left of the row";
+        let text = "strip 0: row 1, from byte 202: the packet at byte 204 has 3 bytes, and the row has room for 2";
         assert_fault(&with_packed(&[253, 7, 255, 7, 2]), 0, Refusal::Invalid, text);
-        let text = "strip 0: row 1, from byte 202: at byte 204, with 2 of 4 bytes unpacked, there is no further packet";
+        let text = "strip 0: row 1, from byte 202: its input ends at byte 204, with 2 of its 4 bytes filled";
         assert_fault(&with_packed(&[253, 7, 255, 7]), 0, Refusal::Truncated, text);
-        let text = "strip 0: row 0, from byte 200: the packet at byte 200 takes 5 bytes, and 4 are there";
+        let text =
+            "strip 0: row 0, from byte 200: the packet at byte 200 takes 5 bytes, and its input ends at byte 204";
         assert_fault(&with_packed(&[3, 1, 2, 3]), 0, Refusal::Truncated, text);
         let text = "strip 0: its rows 2 end at byte 204, and 1 byte is left over";
         assert_fault(&with_packed(&[253, 7, 253, 7, 128]), 0, Refusal::Invalid, text);

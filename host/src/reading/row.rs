@@ -13,7 +13,7 @@ pub enum RowFault {
     /// A packet has more bytes than are left of the row.
     PastRow { at: usize, bytes: usize, left: usize },
     /// The bytes end within a packet.
-    PacketEnd { at: usize, takes: usize, there: usize },
+    PacketEnd { at: usize, takes: usize, end: usize },
 }
 
 impl RowFault {
@@ -38,13 +38,12 @@ impl Error for RowFault {}
 /// assert_eq!(explain_row(&packed, 2, 2), Ok(5));
 /// let fault = explain_row(&packed, 2, 1).unwrap_err();
 /// assert_eq!(fault, RowFault::PastRow { at: 2, bytes: 2, left: 1 });
-/// assert_eq!(fault.to_string(), "the packet at byte 2 has 2 bytes, and 1 are left of the row");
+/// assert_eq!(fault.to_string(), "the packet at byte 2 has 2 bytes, and the row has room for 1");
 /// ```
 pub fn explain_row(packed: &[u8], mut at: usize, row_bytes: usize) -> Result<usize, RowFault> {
     let mut filled = 0;
     while filled < row_bytes {
-        let left = row_bytes - filled;
-        let there = packed.len().saturating_sub(at);
+        let (left, end) = (row_bytes - filled, packed.len());
         let (bytes, takes) = match packed.get(at).map(|&first| usize::from(first)) {
             None => return Err(RowFault::NoPacket { at, filled, row_bytes }),
             Some(n @ 0..128) => (n + 1, n + 2),
@@ -54,8 +53,8 @@ pub fn explain_row(packed: &[u8], mut at: usize, row_bytes: usize) -> Result<usi
         if bytes > left {
             return Err(RowFault::PastRow { at, bytes, left });
         }
-        if takes > there {
-            return Err(RowFault::PacketEnd { at, takes, there });
+        if at + takes > end {
+            return Err(RowFault::PacketEnd { at, takes, end });
         }
         filled += bytes;
         at += takes;

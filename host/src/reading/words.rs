@@ -76,13 +76,13 @@ impl fmt::Display for RowFault {
     fn fmt(&self, f: &mut fmt::Formatter) -> fmt::Result {
         match *self {
             RowFault::NoPacket { at, filled, row_bytes } => {
-                write!(f, "at byte {at}, with {filled} of {row_bytes} bytes unpacked, there is no further packet")
+                write!(f, "its input ends at byte {at}, with {filled} of its {row_bytes} bytes filled")
             }
             RowFault::PastRow { at, bytes, left } => {
-                write!(f, "the packet at byte {at} has {bytes} bytes, and {left} are left of the row")
+                write!(f, "the packet at byte {at} has {bytes} bytes, and the row has room for {left}")
             }
-            RowFault::PacketEnd { at, takes, there } => {
-                write!(f, "the packet at byte {at} takes {takes} bytes, and {there} are there")
+            RowFault::PacketEnd { at, takes, end } => {
+                write!(f, "the packet at byte {at} takes {takes} bytes, and its input ends at byte {end}")
             }
         }
     }
