@@ -31,7 +31,7 @@ impl Plan {
     /// use hamrisk::{Packet, Plan};
     ///
     /// let packets = [Packet::Literal(4), Packet::Repeat(3), Packet::Literal(1)];
-    /// assert_eq!(Plan::of(&[7, 7, 8, 8, 9, 9, 9, 7]), packets.into_iter().collect());
+    /// assert!(Plan::of(&[7, 7, 8, 8, 9, 9, 9, 7]).packets().eq(packets));
     /// ```
     pub fn of(row: &[u8]) -> Plan {
         let mut plan = Plan::default();
@@ -68,10 +68,19 @@ impl Plan {
         self.lengths.push(length);
     }
 
+    /// Its packets, the first one first.
+    pub fn packets(&self) -> impl Iterator<Item = Packet> + '_ {
+        let packet = |(&kind, &bytes)| if kind == 0 { Packet::Literal(bytes) } else { Packet::Repeat(bytes) };
+        self.kinds.iter().zip(&self.lengths).map(packet)
+    }
+
     /// The bytes that its packets are written as: one more than its own for a literal, two for a repeat.
     pub fn length(&self) -> usize {
-        let packets = self.kinds.iter().zip(&self.lengths);
-        packets.map(|(&kind, &bytes)| if kind == 0 { 1 + usize::from(bytes) } else { 2 }).sum()
+        let length = |packet| match packet {
+            Packet::Literal(bytes) => 1 + usize::from(bytes),
+            Packet::Repeat(_) => 2,
+        };
+        self.packets().map(length).sum()
     }
 
     /// What the header calls `kinds` and `lengths`; both have a byte for each packet.
