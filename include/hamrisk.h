@@ -151,13 +151,19 @@ uint32_t hamrisk_unpack_row(const uint8_t *packed, size_t packed_len, uint8_t *r
 
 /*
  * A row as packets of a plan, which hamrisk_unpack_row reads back: packet k has the row's next lengths[k] bytes, as a literal
- * (kinds[k] 0, one byte more than these) or as a repeat (kinds[k] 1, two bytes). kinds and lengths have `packets` bytes each.
- * Refuses: a kind neither 0 nor 1, a literal not of 1 to 128 bytes, a repeat not of 2 to 128 or of bytes that are not all equal,
- *          lengths whose sum is not row_len: 2; out_len below the bytes of the packets: 4.
+ * (kinds[k] 0, one byte more than these) or as a repeat (kinds[k] 1, two bytes).
+ * Refuses: kinds_len not lengths_len: 2; a kind neither 0 nor 1, a literal not of 1 to 128 bytes, a repeat not of 2 to 128 or of
+ *          bytes that are not all equal, lengths whose sum is not row_len: 2; out_len below the bytes of the packets: 4.
  * Writes: the packets, at the front of out; *length, their bytes.
  */
-uint32_t hamrisk_write_plan(const uint8_t *row, size_t row_len, const uint8_t *kinds, const uint8_t *lengths, size_t packets,
-                            uint8_t *out, size_t out_len, size_t *length);
+uint32_t hamrisk_write_plan_lists(const uint8_t *row, size_t row_len, const uint8_t *kinds, size_t kinds_len,
+                                  const uint8_t *lengths, size_t lengths_len, uint8_t *out, size_t out_len, size_t *length);
+
+/* The same, with a kind and a length for each of so many packets. */
+static inline uint32_t hamrisk_write_plan(const uint8_t *row, size_t row_len, const uint8_t *kinds, const uint8_t *lengths,
+                                          size_t packets, uint8_t *out, size_t out_len, size_t *length) {
+    return hamrisk_write_plan_lists(row, row_len, kinds, packets, lengths, packets, out, out_len, length);
+}
 
 /*
  * A row as literals of 128 bytes and a shorter last one, which hamrisk_unpack_row reads back.

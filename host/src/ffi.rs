@@ -108,12 +108,13 @@ extern "C" {
     fn hamrisk_swap_components(raw: *const u8, raw_len: usize, width: usize, out: *mut u8, out_len: usize) -> u32;
     fn hamrisk_commit(source: *const u8, source_len: usize, out: *mut u8, out_len: usize) -> u32;
     fn hamrisk_unpack_row(packed: *const u8, packed_len: usize, row: *mut u8, row_len: usize, used: *mut usize) -> u32;
-    fn hamrisk_write_plan(
+    fn hamrisk_write_plan_lists(
         row: *const u8,
         row_len: usize,
         kinds: *const u8,
+        kinds_len: usize,
         lengths: *const u8,
-        packets: usize,
+        lengths_len: usize,
         out: *mut u8,
         out_len: usize,
         length: *mut usize,
@@ -472,15 +473,16 @@ pub fn unpack_row(packed: &[u8], row: &mut [u8]) -> Result<usize, Refusal> {
 pub fn write_plan(row: &[u8], plan: &Plan, out: &mut [u8]) -> Result<usize, Refusal> {
     let mut length = 0;
     let (kinds, lengths) = plan.kinds_and_lengths();
-    // SAFETY: the pointers are four slices', of which two have the same length, and a local number's; those that are written
-    // overlap no other, as the header asks.
+    // SAFETY: the pointers are four slices' and a local number's, and those that are written overlap no other, as the header
+    // asks.
     done(unsafe {
-        hamrisk_write_plan(
+        hamrisk_write_plan_lists(
             row.as_ptr(),
             row.len(),
             kinds.as_ptr(),
-            lengths.as_ptr(),
             kinds.len(),
+            lengths.as_ptr(),
+            lengths.len(),
             out.as_mut_ptr(),
             out.len(),
             &mut length,

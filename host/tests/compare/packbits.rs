@@ -13,8 +13,8 @@ use hamrisk::{
 #[rustfmt::skip]
 extern "C" {
     fn hamrisk_unpack_row(packed: *const u8, packed_len: usize, row: *mut u8, row_len: usize, used: *mut usize) -> u32;
-    fn hamrisk_write_plan(row: *const u8, row_len: usize, kinds: *const u8, lengths: *const u8, packets: usize,
-                          out: *mut u8, out_len: usize, length: *mut usize) -> u32;
+    fn hamrisk_write_plan_lists(row: *const u8, row_len: usize, kinds: *const u8, kinds_len: usize, lengths: *const u8,
+                                lengths_len: usize, out: *mut u8, out_len: usize, length: *mut usize) -> u32;
     fn hamrisk_pack_row(row: *const u8, row_len: usize, out: *mut u8, out_len: usize, length: *mut usize) -> u32;
 }
 
@@ -66,22 +66,30 @@ fn unpack_case(random: &mut Random, content: &[u8], row_bytes: usize) -> Result<
     expected
 }
 
+/// Holds the two lists of a plan to the plain reading.
+fn lists_case(random: &mut Random, content: &[u8], kinds: &[u8], lengths: &[u8], room: usize) -> Result<Vec<u8>, u32> {
+    let expected = plain_packbits::write_plan(content, kinds, lengths, room);
+    let [row, kinds, lengths] = [content, kinds, lengths].map(|bytes| Lent::of(random, bytes));
+    let mut out = Lent::room(random, room);
+    let [r, k, l] = [&row, &kinds, &lengths].map(|lent| (lent.bytes().as_ptr(), lent.bytes().len()));
+    let to = out.bytes_mut().as_mut_ptr();
+    // SAFETY: the pointers are those of four slices and of a number in an array.
+    check(
+        CANARY,
+        1,
+        expected.as_ref().map(|packets| vec![packets.len()]).map_err(|&refusal| refusal),
+        |length| unsafe { hamrisk_write_plan_lists(r.0, r.1, k.0, k.1, l.0, l.1, to, room, length) },
+    );
+    out.assert_outcome(expected.as_ref().map(|_| ()).map_err(|&refusal| refusal), expected.clone());
+    [row, kinds, lengths].iter().for_each(Lent::assert_kept);
+    expected
+}
+
 /// Holds a plan to the plain reading.
 fn plan_case(random: &mut Random, content: &[u8], plan: &[(u8, u8)], room: usize) -> Result<Vec<u8>, u32> {
     let (kinds, lengths): (Vec<u8>, Vec<u8>) = plan.iter().copied().unzip();
-    let expected = plain_packbits::write_plan(content, &kinds, &lengths, room);
+    let expected = lists_case(random, content, &kinds, &lengths, room);
     let length = expected.as_ref().map(Vec::len).map_err(|&refusal| refusal);
-
-    let [row, kinds, lengths] = [content, &kinds, &lengths].map(|bytes| Lent::of(random, bytes));
-    let mut out = Lent::room(random, room);
-    let [from, k, l] = [&row, &kinds, &lengths].map(|lent| lent.bytes().as_ptr());
-    let to = out.bytes_mut().as_mut_ptr();
-    // SAFETY: the pointers are those of four slices, two of them of as many bytes as there are packets, and of a number in
-    // an array.
-    check(CANARY, 1, length.map(|length| vec![length]), |length| unsafe {
-        hamrisk_write_plan(from, content.len(), k, l, plan.len(), to, room, length)
-    });
-    out.assert_outcome(length.map(|_| ()), expected.clone());
     if random.below(4) == 0 && plan.iter().all(|(kind, _)| *kind < 2) {
         let packet = |&(kind, bytes): &(u8, u8)| if kind == 0 { Packet::Literal(bytes) } else { Packet::Repeat(bytes) };
         let plan: Plan = plan.iter().map(packet).collect();
@@ -90,7 +98,6 @@ fn plan_case(random: &mut Random, content: &[u8], plan: &[(u8, u8)], room: usize
         out.assert_outcome(length.map(|_| ()), expected.clone());
         assert!(length.is_err() || length == Ok(plan.length()));
     }
-    [row, kinds, lengths].iter().for_each(Lent::assert_kept);
     expected
 }
 
@@ -249,6 +256,20 @@ fn spoiled_plans_as_the_plain_reading() {
         tally.note(&plan_case(&mut random, &row, &plan, room));
     }
     tally.assert_mixed(&[0, INVALID, OUTPUT_TOO_SMALL]);
+}
+
+/// A kind without a length, or a length without a kind, behind packets that fill the row.
+#[test]
+fn lists_of_unequal_length() {
+    let mut random = Random::new(87);
+    for _ in 0..5_000 {
+        let row = any_row(&mut random);
+        let (kinds, lengths): (Vec<u8>, Vec<u8>) = any_plan(&mut random, &row).into_iter().unzip();
+        let [more_kinds, more_lengths] = [&kinds, &lengths].map(|list| [&list[..], &[1]].concat());
+        for (kinds, lengths) in [(&kinds, &more_lengths), (&more_kinds, &lengths)] {
+            assert_eq!(lists_case(&mut random, &row, kinds, lengths, 2_000), Err(INVALID));
+        }
+    }
 }
 
 #[test]

@@ -28,6 +28,9 @@ pub fn unpack_row(packed: &[u8], row_bytes: usize) -> Result<(Vec<u8>, usize), u
 
 /// The packets of a plan.
 pub fn write_plan(row: &[u8], kinds: &[u8], lengths: &[u8], room: usize) -> Result<Vec<u8>, u32> {
+    if kinds.len() != lengths.len() {
+        return Err(INVALID);
+    }
     let (mut rest, mut out) = (row, vec![]);
     for (&kind, &length) in kinds.iter().zip(lengths) {
         if usize::from(length) > rest.len() {
