@@ -83,17 +83,15 @@ pub fn write_plan(row: &[u8], kinds: &[u8], lengths: &[u8], out: &mut [u8]) -> u
 
 /// A row as repeats of three equal bytes and more, and literals, without a plan.
 pub fn pack_runs(row: &[u8], out: &mut [u8]) -> usize {
-    let (mut from, mut at, mut to) = (0, 0, 0);
-    while at < row.len() {
-        let equal = row[at..].iter().take(128).take_while(|byte| **byte == row[at]).count();
-        if equal > 2 {
-            to += pack_row(&row[from..at], &mut out[to..]);
-            out[to..to + 2].copy_from_slice(&[(257 - equal) as u8, row[at]]);
-            (from, to) = (at + equal, to + 2);
-        }
-        at += equal;
+    let (mut rest, mut to) = (row, 0);
+    while let Some(before) = rest.windows(3).position(|next| next[0] == next[1] && next[1] == next[2]) {
+        to += pack_row(&rest[..before], &mut out[to..]);
+        rest = &rest[before..];
+        let equal = rest.iter().take(128).take_while(|byte| **byte == rest[0]).count();
+        out[to..to + 2].copy_from_slice(&[(257 - equal) as u8, rest[0]]);
+        (rest, to) = (&rest[equal..], to + 2);
     }
-    to + pack_row(&row[from..], &mut out[to..])
+    to + pack_row(rest, &mut out[to..])
 }
 
 /// Literals of 128 bytes and a shorter last one.

@@ -3,9 +3,6 @@
 /// The most bytes of a row that a packet has.
 const MOST: usize = 128;
 
-/// How many equal bytes are worth a repeat of their own: two cost no less than they do within a literal.
-const WORTH_A_REPEAT: usize = 3;
-
 /// A packet of a [`Plan`], and of how many bytes of the row it is.
 #[derive(Clone, Copy, Debug, PartialEq, Eq, Hash)]
 pub enum Packet {
@@ -25,7 +22,8 @@ pub struct Plan {
 }
 
 impl Plan {
-    /// A plan that fits this row: a repeat wherever three bytes or more are equal, and literals between them.
+    /// A plan that fits this row: a repeat wherever three bytes or more are equal, and literals between them. Two equal bytes
+    /// stay in a literal, where they cost no more.
     ///
     /// ```
     /// use hamrisk::{Packet, Plan};
@@ -35,17 +33,15 @@ impl Plan {
     /// ```
     pub fn of(row: &[u8]) -> Plan {
         let mut plan = Plan::default();
-        let (mut from, mut at) = (0, 0);
-        while at < row.len() {
-            let equal = row[at..].iter().take(MOST).take_while(|byte| **byte == row[at]).count();
-            if equal >= WORTH_A_REPEAT {
-                plan.push_literals(at - from);
-                plan.push(Packet::Repeat(equal as u8));
-                from = at + equal;
-            }
-            at += equal;
+        let mut rest = row;
+        while let Some(before) = rest.windows(3).position(|next| next[0] == next[1] && next[1] == next[2]) {
+            plan.push_literals(before);
+            rest = &rest[before..];
+            let equal = rest.iter().take(MOST).take_while(|byte| **byte == rest[0]).count();
+            plan.push(Packet::Repeat(equal as u8));
+            rest = &rest[equal..];
         }
-        plan.push_literals(at - from);
+        plan.push_literals(rest.len());
         plan
     }
 

@@ -196,7 +196,7 @@ fn grey_byte(l: &Layout, picture: &[u8]) -> Option<Fault> {
 #[cfg(test)]
 mod tests {
     use super::*;
-    use hamrisk::{check_strip, rendered, swap_components, written, written_file, Coding, Packets};
+    use hamrisk::{check_strip, rendered, swap_components, unpacked, written, written_file, Coding, Packets};
 
     /// The fault that is named is one that leads to the library's refusal; without a refusal there is none.
     #[track_caller]
@@ -240,6 +240,17 @@ mod tests {
     fn faults_of_swaps_agree_with_the_library() {
         for (length, width) in (0..30).flat_map(|length| (0..11).map(move |width| (length, width))) {
             assert_agrees(swap_components(&vec![0; length], width, &mut vec![0; length]), of_swap(length, width));
+        }
+    }
+
+    #[test]
+    fn faults_of_packed_rows_agree_with_the_library() {
+        for (first, length) in (0..=255).flat_map(|first| (0..=4).map(move |length| (first, length))) {
+            let packed = [0, 7, first, 254, 9, 0];
+            for row_bytes in [0, 1, 2, 3, 4, 130] {
+                let packed = &packed[..2 + length];
+                assert_agrees(unpacked(&packed[2..], row_bytes), of_packed_row(packed, 2, 1, row_bytes));
+            }
         }
     }
 
