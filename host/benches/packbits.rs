@@ -3,7 +3,7 @@
 use crate::libtiff::{Libtiff, Memory};
 use crate::packbits_by_hand as by_hand;
 use crate::{both, from_page, noise, seconds, PAGE};
-use hamrisk::{pack_row, packed_length, unpack_row, write_plan, Packet, Plan};
+use hamrisk::{pack_row, packed_length, unpack_row, write_plan, Plan, Planned};
 use std::hint::black_box;
 
 /// The bytes of all rows, or a little fewer.
@@ -32,14 +32,14 @@ impl Rows {
 
 /// Literals of 128 bytes and a shorter last one.
 fn literals(row: &[u8]) -> Plan {
-    row.chunks(128).map(|part| Packet::Literal(part.len() as u8)).collect()
+    row.chunks(128).map(|part| Planned::Literal(part.len() as u8)).collect()
 }
 
 /// The kinds and lengths of a plan.
 fn lists(plan: &Plan) -> (Vec<u8>, Vec<u8>) {
     let pair = |packet| match packet {
-        Packet::Literal(bytes) => (0, bytes),
-        Packet::Repeat(bytes) => (1, bytes),
+        Planned::Literal(bytes) => (0, bytes),
+        Planned::Repeat(bytes) => (1, bytes),
     };
     plan.packets().map(pair).unzip()
 }

@@ -462,9 +462,9 @@ pub fn unpack_row(packed: &[u8], row: &mut [u8]) -> Result<usize, Refusal> {
 /// `out`.
 ///
 /// ```
-/// use hamrisk::{write_plan, Packet, Plan, Refusal};
+/// use hamrisk::{write_plan, Planned, Plan, Refusal};
 ///
-/// let plan: Plan = [Packet::Literal(2), Packet::Repeat(3)].into_iter().collect();
+/// let plan: Plan = [Planned::Literal(2), Planned::Repeat(3)].into_iter().collect();
 /// let mut out = [0; 6];
 /// assert_eq!(write_plan(&[7, 8, 9, 9, 9], &plan, &mut out), Ok(5));
 /// assert_eq!(out, [1, 7, 8, 254, 9, 0]);

@@ -56,7 +56,7 @@ pub use ffi::{
 pub use owned::{converted, forwarded, marked, packed, rendered, unpacked, written, written_file};
 pub use packets::PacketWriter;
 pub use pages::{picture, placed, samples, Picture, Samples};
-pub use plan::{packed_length, Packet, Plan};
+pub use plan::{packed_length, Plan, Planned};
 pub use reading::{
     explain, explain_layout, explain_row, explain_strip, skipped, Fault, LayoutFault, Reading, RowFault, Skipped,
     StripFault, TagFault,

@@ -5,7 +5,7 @@ const MOST: usize = 128;
 
 /// A packet of a [`Plan`], and of how many bytes of the row it is.
 #[derive(Clone, Copy, Debug, PartialEq, Eq, Hash)]
-pub enum Packet {
+pub enum Planned {
     /// 1 to 128 bytes as they are.
     Literal(u8),
     /// 2 to 128 bytes that are all equal.
@@ -26,9 +26,9 @@ impl Plan {
     /// stay in a literal, where they cost no more.
     ///
     /// ```
-    /// use hamrisk::{Packet, Plan};
+    /// use hamrisk::{Plan, Planned};
     ///
-    /// let packets = [Packet::Literal(4), Packet::Repeat(3), Packet::Literal(1)];
+    /// let packets = [Planned::Literal(4), Planned::Repeat(3), Planned::Literal(1)];
     /// assert!(Plan::of(&[7, 7, 8, 8, 9, 9, 9, 7]).packets().eq(packets));
     /// ```
     pub fn of(row: &[u8]) -> Plan {
@@ -38,7 +38,7 @@ impl Plan {
             plan.push_literals(before);
             rest = &rest[before..];
             let equal = rest.iter().take(MOST).take_while(|byte| **byte == rest[0]).count();
-            plan.push(Packet::Repeat(equal as u8));
+            plan.push(Planned::Repeat(equal as u8));
             rest = &rest[equal..];
         }
         plan.push_literals(rest.len());
@@ -49,32 +49,32 @@ impl Plan {
     fn push_literals(&mut self, mut bytes: usize) {
         while bytes > 0 {
             let first = bytes.min(MOST);
-            self.push(Packet::Literal(first as u8));
+            self.push(Planned::Literal(first as u8));
             bytes -= first;
         }
     }
 
     /// Puts a packet behind the others.
-    pub fn push(&mut self, packet: Packet) {
+    pub fn push(&mut self, packet: Planned) {
         let (kind, length) = match packet {
-            Packet::Literal(bytes) => (0, bytes),
-            Packet::Repeat(bytes) => (1, bytes),
+            Planned::Literal(bytes) => (0, bytes),
+            Planned::Repeat(bytes) => (1, bytes),
         };
         self.kinds.push(kind);
         self.lengths.push(length);
     }
 
     /// Its packets, the first one first.
-    pub fn packets(&self) -> impl Iterator<Item = Packet> + '_ {
-        let packet = |(&kind, &bytes)| if kind == 0 { Packet::Literal(bytes) } else { Packet::Repeat(bytes) };
+    pub fn packets(&self) -> impl Iterator<Item = Planned> + '_ {
+        let packet = |(&kind, &bytes)| if kind == 0 { Planned::Literal(bytes) } else { Planned::Repeat(bytes) };
         self.kinds.iter().zip(&self.lengths).map(packet)
     }
 
     /// The bytes that its packets are written as: one more than its own for a literal, two for a repeat.
     pub fn length(&self) -> usize {
         let length = |packet| match packet {
-            Packet::Literal(bytes) => 1 + usize::from(bytes),
-            Packet::Repeat(_) => 2,
+            Planned::Literal(bytes) => 1 + usize::from(bytes),
+            Planned::Repeat(_) => 2,
         };
         self.packets().map(length).sum()
     }
@@ -85,14 +85,14 @@ impl Plan {
     }
 }
 
-impl Extend<Packet> for Plan {
-    fn extend<T: IntoIterator<Item = Packet>>(&mut self, packets: T) {
+impl Extend<Planned> for Plan {
+    fn extend<T: IntoIterator<Item = Planned>>(&mut self, packets: T) {
         packets.into_iter().for_each(|packet| self.push(packet));
     }
 }
 
-impl FromIterator<Packet> for Plan {
-    fn from_iter<T: IntoIterator<Item = Packet>>(packets: T) -> Plan {
+impl FromIterator<Planned> for Plan {
+    fn from_iter<T: IntoIterator<Item = Planned>>(packets: T) -> Plan {
         let mut plan = Plan::default();
         plan.extend(packets);
         plan

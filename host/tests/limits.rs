@@ -5,7 +5,7 @@ mod tiff;
 use hamrisk::limits::{self, Served, MOST_ENTRIES, MOST_PAGES, MOST_PICTURE_BYTES, MOST_SIDE, MOST_STRIP_BYTES};
 use hamrisk::{
     check_layout, check_strip, file_length, read_directory, read_word, rendered, swap_components, write_plan, written,
-    ByteAt, ByteOrder, Coding, Layout, Packet, Packets, Plan, Refusal, Strip,
+    ByteAt, ByteOrder, Coding, Layout, Packets, Plan, Planned, Refusal, Strip,
 };
 use tiff::Page;
 
@@ -61,7 +61,8 @@ fn bytes_of_a_strip_in_pieces() {
 #[test]
 fn bytes_of_a_planned_packet() {
     for bytes in 0..=255 {
-        for (packet, served) in [(Packet::Literal(bytes), limits::LITERALS), (Packet::Repeat(bytes), limits::REPEATS)] {
+        for (packet, served) in [(Planned::Literal(bytes), limits::LITERALS), (Planned::Repeat(bytes), limits::REPEATS)]
+        {
             let plan: Plan = [packet].into_iter().collect();
             let answer = write_plan(&vec![7; bytes.into()], &plan, &mut [0; 256]);
             assert_eq!(answer.is_ok(), served.has(bytes.into()), "{packet:?}; {served} are said to be served");

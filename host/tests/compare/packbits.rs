@@ -7,7 +7,7 @@ use crate::plain::{INVALID, OUTPUT_TOO_SMALL, TRUNCATED};
 use crate::random::Random;
 use crate::{plain_packbits, told};
 use hamrisk::{
-    explain_row, pack_row, packed, packed_length, unpack_row, unpacked, write_plan, Packet, Plan, Refusal, RowFault,
+    explain_row, pack_row, packed, packed_length, unpack_row, unpacked, write_plan, Plan, Planned, Refusal, RowFault,
 };
 
 #[rustfmt::skip]
@@ -91,7 +91,8 @@ fn plan_case(random: &mut Random, content: &[u8], plan: &[(u8, u8)], room: usize
     let expected = lists_case(random, content, &kinds, &lengths, room);
     let length = expected.as_ref().map(Vec::len).map_err(|&refusal| refusal);
     if random.below(4) == 0 && plan.iter().all(|(kind, _)| *kind < 2) {
-        let packet = |&(kind, bytes): &(u8, u8)| if kind == 0 { Packet::Literal(bytes) } else { Packet::Repeat(bytes) };
+        let packet =
+            |&(kind, bytes): &(u8, u8)| if kind == 0 { Planned::Literal(bytes) } else { Planned::Repeat(bytes) };
         let plan: Plan = plan.iter().map(packet).collect();
         let mut out = Lent::room(random, room);
         assert_eq!(told(write_plan(content, &plan, out.bytes_mut())), length);
@@ -365,16 +366,16 @@ fn plans_of_runs() {
     let plan = |row: &[u8]| Plan::of(row);
     for length in 0..=400usize {
         let mut expected = Plan::default();
-        expected.extend(vec![Packet::Repeat(128); length / 128]);
+        expected.extend(vec![Planned::Repeat(128); length / 128]);
         match (length % 128) as u8 {
             0 => {}
-            rest @ 1..=2 => expected.push(Packet::Literal(rest)),
-            rest => expected.push(Packet::Repeat(rest)),
+            rest @ 1..=2 => expected.push(Planned::Literal(rest)),
+            rest => expected.push(Planned::Repeat(rest)),
         }
         assert_eq!(plan(&vec![7; length]), expected, "{length}");
     }
     let noise: Vec<u8> = (0..300).map(|n| n as u8).collect();
-    assert_eq!(plan(&noise), [128, 128, 44].map(Packet::Literal).into_iter().collect());
+    assert_eq!(plan(&noise), [128, 128, 44].map(Planned::Literal).into_iter().collect());
     assert_eq!(plan(&noise).length(), packed_length(300));
 }
 
