@@ -56,7 +56,7 @@ pub fn write_plan_checked(row: &[u8], kinds: &[u8], lengths: &[u8], out: &mut [u
         let (own, later) = rest.split_at_checked(length.into())?;
         let (good, bytes) = match kind {
             0 => ((1..=128).contains(&length), own.len() + 1),
-            1 => ((2..=128).contains(&length) && own.iter().all(|byte| *byte == own[0]), 2),
+            1 => ((2..=128).contains(&length) && own[1..] == own[..own.len() - 1], 2),
             _ => (false, 0),
         };
         room = room.checked_sub(bytes).filter(|_| good)?;
