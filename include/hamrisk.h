@@ -10,10 +10,10 @@
  * What the proof cannot see, and the caller owes:
  * - A pointer is not null, even with length 0, and stands for as many bytes as its length says: readable and initialised for
  *   the whole call, an output's too, and writable where it is not const.
- * - `value`, `count`, `place`, `length` and `written` point to one number, `derived` to seven, `state` to HAMRISK_PACKETS, `parts`
- *   to parts_len, `layout` to a hamrisk_layout and `found` to a hamrisk_page, aligned as their type.
- * - What a call writes overlaps nothing else that it is handed: `out`, `marks`, `planes`, `parts`, `state` and `found` no input,
- *   and a lent number no buffer and no other one.
+ * - `value`, `count`, `place`, `length`, `written` and `used` point to one number, `derived` to seven, `state` to HAMRISK_PACKETS,
+ *   `parts` to parts_len, `layout` to a hamrisk_layout and `found` to a hamrisk_page, aligned as their type.
+ * - What a call writes overlaps nothing else that it is handed: `out`, `marks`, `planes`, `parts`, `state`, `found` and a `row`
+ *   that is written no input, and a lent number no buffer and no other one.
  * - While the call runs nobody else writes what it reads, or touches what it writes.
  * - A bool is 0 or 1.
  */
@@ -141,6 +141,38 @@ uint32_t hamrisk_swap_components(const uint8_t *raw, size_t raw_len, size_t widt
 uint32_t hamrisk_commit(const uint8_t *source, size_t source_len, uint8_t *out, size_t out_len);
 
 /*
+ * A row of PackBits. A packet's first byte is n: 0 to 127, and the next n + 1 bytes are the row's next ones; 129 to 255, and the
+ * next byte is, 257 - n times; 128, and nothing is. Reading stops once the row is full: no bytes are read for a row of none.
+ * Refuses, packet by packet: its first byte not in packed: 3; more bytes than are left of the row, all there or not: 2; its
+ *          other bytes not all in packed: 3.
+ * Writes: row_len bytes of row; *used, the bytes of packed that were read.
+ */
+uint32_t hamrisk_unpack_row(const uint8_t *packed, size_t packed_len, uint8_t *row, size_t row_len, size_t *used);
+
+/*
+ * A row as packets of a plan, which hamrisk_unpack_row reads back: packet k has the row's next lengths[k] bytes, as a literal
+ * (kinds[k] 0, one byte more than these) or as a repeat (kinds[k] 1, two bytes).
+ * Refuses: kinds_len not lengths_len: 2; a kind neither 0 nor 1, a literal not of 1 to 128 bytes, a repeat not of 2 to 128 or of
+ *          bytes that are not all equal, lengths whose sum is not row_len: 2; out_len below the bytes of the packets: 4.
+ * Writes: the packets, at the front of out; *length, their bytes.
+ */
+uint32_t hamrisk_write_plan_lists(const uint8_t *row, size_t row_len, const uint8_t *kinds, size_t kinds_len,
+                                  const uint8_t *lengths, size_t lengths_len, uint8_t *out, size_t out_len, size_t *length);
+
+/* The same, with a kind and a length for each of so many packets. */
+static inline uint32_t hamrisk_write_plan(const uint8_t *row, size_t row_len, const uint8_t *kinds, const uint8_t *lengths,
+                                          size_t packets, uint8_t *out, size_t out_len, size_t *length) {
+    return hamrisk_write_plan_lists(row, row_len, kinds, packets, lengths, packets, out, out_len, length);
+}
+
+/*
+ * A row as literals of 128 bytes and a shorter last one, which hamrisk_unpack_row reads back.
+ * Refuses: out_len below row_len + row_len / 128, rounded up: 4.
+ * Writes: the packets, at the front of out; *length, their bytes.
+ */
+uint32_t hamrisk_pack_row(const uint8_t *row, size_t row_len, uint8_t *out, size_t out_len, size_t *length);
+
+/*
  * A picture, and how its planes hold it. palette, separate, le and white are 0 or 1.
  */
 typedef struct hamrisk_layout {
@@ -197,16 +229,16 @@ uint32_t hamrisk_write_planes(const hamrisk_layout *layout, const uint8_t *pictu
                               size_t planes_len);
 
 /*
- * A page of a TIFF file. Its strips end to end are planes that hamrisk_render takes with this layout and this file; compressed
- * ones are unpacked first, row by row, and predicted ones then go through hamrisk_convert, strip by strip or all at once: rows of
- * derived[0] * derived[1] bytes, channels derived[1] / layout.bytes, width layout.bytes.
+ * A page of a TIFF file. Its strips end to end are planes that hamrisk_render takes with this layout and this file. With
+ * compression each row of a strip goes through hamrisk_unpack_row first; predicted planes then go through hamrisk_convert, strip by
+ * strip or all at once: rows of derived[0] * derived[1] bytes, channels derived[1] / layout.bytes, width layout.bytes.
  */
 typedef struct hamrisk_page {
     hamrisk_layout layout;
     size_t derived[7];  /* what follows from the layout, as hamrisk_check_layout gives it */
     size_t predictor;   /* 1: samples are stored as they are; 2: predicted */
     size_t strips;      /* how many strips it has */
-    size_t compression; /* 1: none; 32773: PackBits */
+    size_t compression; /* 1: none; 32773: PackBits, each row on its own */
 } hamrisk_page;
 
 /*
@@ -246,12 +278,10 @@ typedef struct hamrisk_page {
  *  4. As hamrisk_check_layout of: w 256; h 257; ch 3 with a palette, else 277; bytes 2 if bits are 16, else 1; slots 8 if bits
  *     are 1, 2 if they are 4, else 1; palette; separate if 284 is 2; le if "II"; white if 262 is 0; alpha 338, or 0; map where the
  *     values of 320 stand, or 0.
- *  5. Each strip, by its number. Not compressed, and its bytes not its rows (278, or what is left for the last of a plane) * the
- *     bytes of a row: 2; place + bytes past file_len: 3. With PackBits, each of its rows, which are packets until the row is full:
- *     a byte h, and if it is below 128 the h + 1 bytes behind it; if it is above, the one behind it, 257 - h times; 128 fills
- *     nothing. A packet that is not there: 3; one that passes the row's end: 2; one whose bytes are not all in the strip: 3. Then
- *     bytes of the strip behind its last row: 2.
- * Writes: *found, whose strips are all in the file, their rows together the scratch length.
+ *  5. Each strip, by its number. It has 278's rows, or those that are left for the last of a plane. Without compression its bytes
+ *     not its rows * the bytes of a row: 2. place + bytes past file_len: 3. With compression as hamrisk_unpack_row of each of its
+ *     rows, one after the other; bytes left over behind the last: 2.
+ * Writes: *found, whose strips are all in the file; their rows together are the scratch length.
  */
 uint32_t hamrisk_directory(const uint8_t *file, size_t file_len, size_t page, hamrisk_page *found);
 

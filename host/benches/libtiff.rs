@@ -33,6 +33,7 @@ pub struct Libtiff {
     close: unsafe extern "C" fn(Handle),
     set: unsafe extern "C" fn(Handle, u32, ...) -> c_int,
     write: unsafe extern "C" fn(Handle, u32, *const u8, isize) -> isize,
+    write_raw: unsafe extern "C" fn(Handle, u32, *const u8, isize) -> isize,
     read: unsafe extern "C" fn(Handle, u32, *mut u8, isize) -> isize,
     next_page: unsafe extern "C" fn(Handle) -> c_int,
     strips: unsafe extern "C" fn(Handle) -> u32,
@@ -102,6 +103,9 @@ unsafe fn function<F>(library: Handle, name: &CStr) -> Option<F> {
     (!found.is_null()).then(|| std::mem::transmute_copy::<Handle, F>(&found))
 }
 
+/// The compression of packed rows.
+const PACKBITS: usize = 32_773;
+
 /// A strip of one picture: `rows` rows of 1024 pixels of `channels` samples of `width` bytes, through Deflate.
 #[derive(Clone, Copy)]
 pub struct Picture {
@@ -135,6 +139,7 @@ impl Libtiff {
                 close: function(library, c"TIFFClose")?,
                 set: function(library, c"TIFFSetField")?,
                 write: function(library, c"TIFFWriteEncodedStrip")?,
+                write_raw: function(library, c"TIFFWriteRawStrip")?,
                 read: function(library, c"TIFFReadEncodedStrip")?,
                 next_page: function(library, c"TIFFReadDirectory")?,
                 strips: function(library, c"TIFFNumberOfStrips")?,
@@ -205,17 +210,50 @@ impl Libtiff {
         }
     }
 
-    /// A file of a grey picture, little-endian and not compressed, its strips handed over one by one.
-    pub fn write_grey_file(&self, w: usize, h: usize, rows_per_strip: usize, planes: &[u8], memory: &mut Memory) {
+    /// A file of a grey picture, little-endian, to be written: its tags are set.
+    unsafe fn grey_file(&self, size: (usize, usize), compression: usize, rows: usize, memory: &mut Memory) -> Handle {
         memory.bytes.clear();
         memory.at = 0;
+        let tiff = self.opened(memory, "wl");
+        let (w, h) = size;
+        for (tag, value) in
+            [(256, w), (257, h), (258, 8), (259, compression), (262, 1), (277, 1), (278, rows), (284, 1)]
+        {
+            (self.set)(tiff, tag, value as c_int);
+        }
+        tiff
+    }
+
+    /// A file of a grey picture in one strip, its rows packed by libtiff.
+    pub fn write_packed_file(&self, w: usize, h: usize, plane: &[u8], memory: &mut Memory) {
         unsafe {
-            let tiff = self.opened(memory, "wl");
-            for (tag, value) in
-                [(256, w), (257, h), (258, 8), (259, 1), (262, 1), (277, 1), (278, rows_per_strip), (284, 1)]
-            {
-                (self.set)(tiff, tag, value as c_int);
-            }
+            let tiff = self.grey_file((w, h), PACKBITS, h, memory);
+            assert!((self.write)(tiff, 0, plane.as_ptr(), plane.len() as isize) > 0);
+            (self.close)(tiff);
+        }
+    }
+
+    /// A strip of packed rows, where it stands in memory, read: what one call does.
+    pub fn unpacker(&self, w: usize, h: usize, packed: &[u8]) -> impl FnMut(&mut [u8]) + '_ {
+        let mut memory = Box::new(Memory::default());
+        let tiff = unsafe {
+            let tiff = self.grey_file((w, h), PACKBITS, h, &mut memory);
+            assert!((self.write_raw)(tiff, 0, packed.as_ptr(), packed.len() as isize) > 0);
+            (self.close)(tiff);
+            memory.at = 0;
+            self.opened(&mut memory, "r")
+        };
+        move |out| {
+            let keep = &memory;
+            let n = unsafe { (self.read)(tiff, 0, out.as_mut_ptr(), out.len() as isize) };
+            assert!(n == out.len() as isize && !keep.bytes.is_empty());
+        }
+    }
+
+    /// A file of a grey picture, little-endian and not compressed, its strips handed over one by one.
+    pub fn write_grey_file(&self, w: usize, h: usize, rows_per_strip: usize, planes: &[u8], memory: &mut Memory) {
+        unsafe {
+            let tiff = self.grey_file((w, h), 1, rows_per_strip, memory);
             for (k, strip) in planes.chunks(w * rows_per_strip).enumerate() {
                 assert!((self.write)(tiff, k as u32, strip.as_ptr(), strip.len() as isize) > 0);
             }

@@ -4,6 +4,8 @@ mod by_hand;
 mod directories;
 mod files;
 mod libtiff;
+mod packbits;
+mod packbits_by_hand;
 mod packets;
 mod reversal;
 
@@ -382,6 +384,9 @@ fn main() {
     predicted(&run);
     if run.has("packets") {
         packets::print();
+    }
+    if run.has("packbits, unpack_row, write_plan, pack_row") {
+        packbits::print(run.libtiff.as_ref());
     }
     if run.has("reverse_bits") {
         reversal::print(run.libtiff.as_ref());

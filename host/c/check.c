@@ -1,6 +1,6 @@
 /*
- * The cases A, C, D, E, F, I, J and L of docs/RULES.md, A in pieces too, three-byte words, a small TIFF file read and one
- * written, and some refusals, through include/hamrisk.h. Prints a line for each check that differs and one of counts; ends
+ * The cases A, C, D, E, F, I, J and L of docs/RULES.md, A in pieces too, three-byte words, PackBits rows, a small TIFF file read,
+ * packed and not, and one written, and some refusals, through include/hamrisk.h. Prints a line for each check that differs and one of counts; ends
  * with 1 if any differs.
  */
 #include "hamrisk.h"
@@ -146,6 +146,46 @@ static void bytes(void) {
     check("a sample", hamrisk_load(raw, 6, 2, true, true, &sample) == HAMRISK_DONE && sample == 0x0605);
 }
 
+static void packed_rows(void) {
+    const uint8_t packed[8] = {1, 7, 8, 128, 254, 9, 0, 5};
+    const uint8_t row[5] = {7, 8, 9, 9, 9};
+    const uint8_t kinds[2] = {0, 1}, lengths[2] = {2, 3}, third[2] = {0, 2};
+    const uint8_t by_plan[5] = {1, 7, 8, 254, 9};
+    const uint8_t as_literals[6] = {4, 7, 8, 9, 9, 9};
+    uint8_t out[ROOM];
+    size_t number = 77;
+
+    clear(out);
+    check("a packet past the row, whole or cut", hamrisk_unpack_row(packed, 8, out, 4, &number) == HAMRISK_INVALID
+                                                     && hamrisk_unpack_row(packed, 5, out, 4, &number) == HAMRISK_INVALID
+                                                     && holds(out, out, 0) && number == 77);
+    check("packets that end early", hamrisk_unpack_row(packed, 5, out, 5, &number) == HAMRISK_TRUNCATED
+                                        && hamrisk_unpack_row(packed, 4, out, 5, &number) == HAMRISK_TRUNCATED
+                                        && holds(out, out, 0) && number == 77);
+    check("a row of packets",
+          hamrisk_unpack_row(packed, 8, out, 5, &number) == HAMRISK_DONE && holds(out, row, 5) && number == 6);
+    check("a row of none", hamrisk_unpack_row(packed, 8, out, 0, &number) == HAMRISK_DONE && holds(out, row, 5) && number == 0);
+
+    clear(out);
+    number = 77;
+    check("a kind of 2, unequal bytes, too few packets",
+          hamrisk_write_plan(row, 5, third, lengths, 2, out, ROOM, &number) == HAMRISK_INVALID
+              && hamrisk_write_plan(row, 5, kinds + 1, lengths, 1, out, ROOM, &number) == HAMRISK_INVALID
+              && hamrisk_write_plan(row, 5, kinds, lengths, 1, out, 0, &number) == HAMRISK_INVALID && holds(out, out, 0)
+              && number == 77);
+    check("a plan without room", hamrisk_write_plan(row, 5, kinds, lengths, 2, out, 4, &number) == HAMRISK_OUTPUT_TOO_SMALL
+                                     && holds(out, out, 0) && number == 77);
+    check("a plan", hamrisk_write_plan(row, 5, kinds, lengths, 2, out, ROOM, &number) == HAMRISK_DONE && holds(out, by_plan, 5)
+                        && number == 5);
+
+    clear(out);
+    number = 77;
+    check("literals without room",
+          hamrisk_pack_row(row, 5, out, 5, &number) == HAMRISK_OUTPUT_TOO_SMALL && holds(out, out, 0) && number == 77);
+    check("literals",
+          hamrisk_pack_row(row, 5, out, ROOM, &number) == HAMRISK_DONE && holds(out, as_literals, 6) && number == 6);
+}
+
 static void damage(void) {
     const uint8_t predicted[8] = {0, 1, 1, 1, 0, 0, 0, 0};
     const uint8_t unpredicted[8] = {0, 1, 0, 0, 0, 0, 0, 0};
@@ -251,7 +291,7 @@ static void pages(const uint8_t *file, hamrisk_page *found) {
 
     memset(found, CANARY, sizeof *found);
     before = *found;
-    check("20 numbers of a page", sizeof *found == 20 * sizeof(size_t));
+    check("21 numbers of a page", sizeof *found == 21 * sizeof(size_t));
     check("a page that is not there", hamrisk_directory(file, FILE_LEN, 1, found) == HAMRISK_INVALID
                                           && memcmp(found, &before, sizeof before) == 0);
     check("page 16",
@@ -261,7 +301,8 @@ static void pages(const uint8_t *file, hamrisk_page *found) {
     check("a page", hamrisk_directory(file, FILE_LEN, 0, found) == HAMRISK_DONE && found->layout.w == 2 && found->layout.h == 2
                         && found->layout.ch == 1 && found->layout.bytes == 2 && found->layout.slots == 1
                         && found->layout.le == 0 && found->derived[0] == 2 && found->derived[1] == 2 && found->derived[4] == 8
-                        && found->derived[5] == 8 && found->predictor == 2 && found->strips == 2);
+                        && found->derived[5] == 8 && found->predictor == 2 && found->strips == 2
+                        && found->compression == 1);
 }
 
 static void strips(const uint8_t *file) {
@@ -298,6 +339,34 @@ static void files(void) {
                              && holds(planes, picture, 8));
     check("its picture", hamrisk_render(&found.layout, file, FILE_LEN, planes, 8, out, ROOM) == HAMRISK_DONE
                              && holds(out, picture, 8));
+}
+
+/* The same file with each of its rows packed into two bytes: tag 259 is put in, and 277 left out, whose default is meant. */
+static void packed_file(void) {
+    const uint8_t rows[8] = {253, 7, 0, 0, 253, 9, 0, 0};
+    uint8_t file[FILE_LEN], row[ROOM];
+    hamrisk_page found;
+    size_t parts[4] = {77, 77, 77, 77}, used = 77;
+
+    make_file(file);
+    memmove(file + DIRECTORY + 2 + 4 * 12, file + DIRECTORY + 2 + 3 * 12, 2 * 12);
+    put(file + DIRECTORY + 2 + 3 * 12, 2, 259);
+    put(file + DIRECTORY + 2 + 3 * 12 + 8, 2, 32773);
+    put(file + VALUES + 8, 4, 2);
+    put(file + VALUES + 12, 4, 2);
+    memcpy(file + FIRST, rows, 8);
+    check("a packed page", hamrisk_directory(file, FILE_LEN, 0, &found) == HAMRISK_DONE && found.compression == 32773
+                               && found.predictor == 2 && found.strips == 2 && found.derived[4] == 8);
+    check("its packed strips", hamrisk_strips(file, FILE_LEN, 0, parts, 4) == HAMRISK_DONE && parts[0] == FIRST
+                                   && parts[1] == 2 && parts[2] == FIRST + 4 && parts[3] == 2);
+    clear(row);
+    check("a row of it", hamrisk_unpack_row(file + parts[2], parts[3], row, 4, &used) == HAMRISK_DONE && used == 2
+                             && row[0] == 9 && row[3] == 9 && row[4] == CANARY);
+    put(file + VALUES + 12, 4, 3);
+    check("a packed strip with a byte left over", hamrisk_directory(file, FILE_LEN, 0, &found) == HAMRISK_INVALID);
+    put(file + VALUES + 12, 4, 1);
+    check("a packed strip that is short", hamrisk_strip(file, FILE_LEN, 0, 1, parts, &used) == HAMRISK_TRUNCATED
+                                              && parts[0] == FIRST && used == 2);
 }
 
 /* Bytes of a file of three rows of two grey pixels, a strip for each row: header, directory, values of four tags, strips. */
@@ -341,9 +410,11 @@ int main(void) {
     packets();
     packets_of_three();
     bytes();
+    packed_rows();
     damage();
     pictures();
     files();
+    packed_file();
     written();
     printf("%d checks, %d differ\n", checks, differ);
     return differ == 0 ? 0 : 1;

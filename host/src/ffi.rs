@@ -4,7 +4,7 @@
 //! stands for as many initialised bytes as its length says, what is lent to be written overlaps nothing else, a lent
 //! number is aligned, and a `bool` is 0 or 1.
 
-use crate::{ByteAt, ByteOrder, Coding, Derived, Layout, Page, Refusal, SampleAt, Strip};
+use crate::{ByteAt, ByteOrder, Coding, Compression, Derived, Layout, Page, Plan, Refusal, SampleAt, Strip};
 use std::ops::Range;
 
 /// Declares functions of the archive that take a strip and its coding.
@@ -68,6 +68,7 @@ struct Found {
     derived: [usize; 7],
     predictor: usize,
     strips: usize,
+    compression: usize,
 }
 
 extern "C" {
@@ -106,6 +107,19 @@ extern "C" {
     fn hamrisk_reverse_bits(s: *mut u8, s_len: usize);
     fn hamrisk_swap_components(raw: *const u8, raw_len: usize, width: usize, out: *mut u8, out_len: usize) -> u32;
     fn hamrisk_commit(source: *const u8, source_len: usize, out: *mut u8, out_len: usize) -> u32;
+    fn hamrisk_unpack_row(packed: *const u8, packed_len: usize, row: *mut u8, row_len: usize, used: *mut usize) -> u32;
+    fn hamrisk_write_plan_lists(
+        row: *const u8,
+        row_len: usize,
+        kinds: *const u8,
+        kinds_len: usize,
+        lengths: *const u8,
+        lengths_len: usize,
+        out: *mut u8,
+        out_len: usize,
+        length: *mut usize,
+    ) -> u32;
+    fn hamrisk_pack_row(row: *const u8, row_len: usize, out: *mut u8, out_len: usize, length: *mut usize) -> u32;
     fn hamrisk_check_layout(layout: *const usize, derived: *mut usize) -> u32;
     fn hamrisk_index(layout: *const usize, k: usize, place: *mut usize) -> u32;
     fn hamrisk_render(
@@ -417,6 +431,83 @@ pub fn commit(source: &[u8], out: &mut [u8]) -> Result<(), Refusal> {
     done(unsafe { hamrisk_commit(source.as_ptr(), source.len(), out.as_mut_ptr(), out.len()) })
 }
 
+/// A row of PackBits, filled from the packets at the front of `packed`; answers how many bytes these have. Reading stops once
+/// the row is full, so that the next row begins there.
+///
+/// Refuses, packet by packet: an input that ends before it is Truncated; more bytes than are left of the row, all there or
+/// not, is Invalid; an input that ends within it is Truncated. Writes all of `row`.
+///
+/// ```
+/// use hamrisk::{unpack_row, Refusal};
+///
+/// let packed = [1, 7, 8, 254, 9, 0, 1]; // two bytes as they are; one three times; the next row
+/// let mut row = [0; 5];
+/// assert_eq!(unpack_row(&packed, &mut row), Ok(5));
+/// assert_eq!(row, [7, 8, 9, 9, 9]);
+/// assert_eq!(unpack_row(&packed, &mut [0; 4]), Err(Refusal::Invalid));
+/// assert_eq!(unpack_row(&packed[..4], &mut row), Err(Refusal::Truncated));
+/// ```
+pub fn unpack_row(packed: &[u8], row: &mut [u8]) -> Result<usize, Refusal> {
+    let mut used = 0;
+    // SAFETY: the pointers are two slices' and a local number's, which do not overlap, as the header asks.
+    done(unsafe { hamrisk_unpack_row(packed.as_ptr(), packed.len(), row.as_mut_ptr(), row.len(), &mut used) })?;
+    Ok(used)
+}
+
+/// A row as the packets of a plan, which [`unpack_row`] reads back; answers how many bytes these have,
+/// [`plan.length()`](Plan::length).
+///
+/// Refuses: a literal not of 1 to 128 bytes, a repeat not of 2 to 128 or of bytes that are not all equal, or packets that do
+/// not end with the row is Invalid; then `out` shorter than the packets is OutputTooSmall. Writes the packets at the front of
+/// `out`.
+///
+/// ```
+/// use hamrisk::{write_plan, Planned, Plan, Refusal};
+///
+/// let plan: Plan = [Planned::Literal(2), Planned::Repeat(3)].into_iter().collect();
+/// let mut out = [0; 6];
+/// assert_eq!(write_plan(&[7, 8, 9, 9, 9], &plan, &mut out), Ok(5));
+/// assert_eq!(out, [1, 7, 8, 254, 9, 0]);
+/// assert_eq!(write_plan(&[7, 8, 9, 9, 7], &plan, &mut out), Err(Refusal::Invalid));
+/// ```
+pub fn write_plan(row: &[u8], plan: &Plan, out: &mut [u8]) -> Result<usize, Refusal> {
+    let mut length = 0;
+    let (kinds, lengths) = plan.kinds_and_lengths();
+    // SAFETY: the pointers are four slices' and a local number's, and those that are written overlap no other, as the header
+    // asks.
+    done(unsafe {
+        hamrisk_write_plan_lists(
+            row.as_ptr(),
+            row.len(),
+            kinds.as_ptr(),
+            kinds.len(),
+            lengths.as_ptr(),
+            lengths.len(),
+            out.as_mut_ptr(),
+            out.len(),
+            &mut length,
+        )
+    })?;
+    Ok(length)
+}
+
+/// A row as literals of 128 bytes and a shorter last one, which [`unpack_row`] reads back; answers how many bytes these have,
+/// [`packed_length`](crate::packed_length) of the row's.
+///
+/// Refuses: `out` shorter than the packets is OutputTooSmall. Writes the packets at the front of `out`.
+///
+/// ```
+/// let mut out = [0; 5];
+/// assert_eq!(hamrisk::pack_row(&[9, 9, 9], &mut out), Ok(4));
+/// assert_eq!(out, [2, 9, 9, 9, 0]);
+/// ```
+pub fn pack_row(row: &[u8], out: &mut [u8]) -> Result<usize, Refusal> {
+    let mut length = 0;
+    // SAFETY: the pointers are two slices' and a local number's, which do not overlap, as the header asks.
+    done(unsafe { hamrisk_pack_row(row.as_ptr(), row.len(), out.as_mut_ptr(), out.len(), &mut length) })?;
+    Ok(length)
+}
+
 /// Checks a layout and answers what follows from it.
 ///
 /// Refuses, in this order:
@@ -516,8 +607,8 @@ pub fn write_planes(layout: &Layout, picture: &[u8], planes: &mut [u8]) -> Resul
     })
 }
 
-/// The page of a TIFF file, counted from 0: its layout, whether its samples are predicted, and how many strips it has.
-/// Every strip is in the file and has the length that its rows need.
+/// The page of a TIFF file, counted from 0: its layout, whether its samples are predicted, how many strips it has and how they
+/// are compressed. Every strip is in the file and holds its rows, no more and no fewer.
 ///
 /// Refuses, in this order:
 /// 1. `page` above 15 is Limit; a file under 8 bytes is Truncated; one that does not begin with II or MM, and 42 in that
@@ -530,11 +621,12 @@ pub fn write_planes(layout: &Layout, picture: &[u8], planes: &mut [u8]) -> Resul
 ///    values not in the file is Truncated; a value that is not served is Unsupported, and 0 rows a strip is Invalid; a
 ///    contradiction with lower tags is Invalid.
 /// 4. As [`check_layout`] of the page's layout.
-/// 5. For each strip, by number: a byte count that is not its rows × the bytes of a row is Invalid; an end past the
-///    file's is Truncated.
+/// 5. For each strip, by number: without compression a byte count that is not its rows × the bytes of a row is Invalid; an
+///    end past the file's is Truncated; with compression, as [`unpack_row`] of each of its rows, and bytes left over behind
+///    the last are Invalid.
 ///
-/// Served are strips that are not compressed: grey or three colours of 8 or 16 bits, with 8 bits one alpha beside them;
-/// bilevel; palettes of 1, 4 or 8 bits; planes together or apart; predicted, from 8 bits up, or not.
+/// Served are strips that are not compressed, or by PackBits: grey or three colours of 8 or 16 bits, with 8 bits one alpha
+/// beside them; bilevel; palettes of 1, 4 or 8 bits; planes together or apart; predicted, from 8 bits up, or not.
 ///
 /// ```
 /// use hamrisk::{read_directory, Refusal};
@@ -555,8 +647,14 @@ pub fn read_directory(file: &[u8], page: usize) -> Result<Page, Refusal> {
     let mut found = Found::default();
     // SAFETY: the pointers are a slice's and that of a local page, as the header asks.
     done(unsafe { hamrisk_directory(file.as_ptr(), file.len(), page, &mut found) })?;
-    let Found { layout, derived, predictor, strips } = found;
-    Ok(Page { layout: layout_of(layout), derived: derived_of(derived), predict: predictor == 2, strips })
+    let Found { layout, derived, predictor, strips, compression } = found;
+    Ok(Page {
+        layout: layout_of(layout),
+        derived: derived_of(derived),
+        predict: predictor == 2,
+        strips,
+        compression: Compression::of(compression),
+    })
 }
 
 /// Where strip `k` of a page stands in the file.
@@ -584,7 +682,7 @@ pub fn strip_place(file: &[u8], page: usize, k: usize) -> Result<Range<usize>, R
     Ok(place..place + length)
 }
 
-/// The bytes of strip `k` of a page, a part of the file. Refuses as [`strip_place`].
+/// The bytes of strip `k` of a page as they stand in the file, packed where it is compressed. Refuses as [`strip_place`].
 pub fn strip(file: &[u8], page: usize, k: usize) -> Result<&[u8], Refusal> {
     Ok(&file[strip_place(file, page, k)?])
 }

@@ -54,6 +54,12 @@ pub const WIDTHS: Served = Served::OneOf(&[1, 2, 3, 4, 8]);
 /// The most bytes of a strip that arrives in [`Packets`](crate::Packets).
 pub const MOST_STRIP_BYTES: usize = 1_073_741_824;
 
+/// Bytes of a row that a literal of a [`Plan`](crate::Plan) has.
+pub const LITERALS: Served = Served::FromTo(1, 128);
+
+/// Bytes of a row, all equal, that a repeat of a [`Plan`](crate::Plan) has.
+pub const REPEATS: Served = Served::FromTo(2, 128);
+
 /// Bytes of a group of [`swap_components`](crate::swap_components).
 pub const SWAP_WIDTHS: Served = Served::FromTo(1, 8);
 
@@ -96,8 +102,8 @@ pub const MOST_ENTRIES: usize = 64;
 /// Bits of a sample of a page (tag 258).
 pub const SAMPLE_BITS: Served = Served::OneOf(&[1, 4, 8, 16]);
 
-/// How the strips of a page are compressed (tag 259): not at all.
-pub const COMPRESSIONS: Served = Served::OneOf(&[1]);
+/// How the strips of a page are compressed (tag 259): not at all, or by PackBits.
+pub const COMPRESSIONS: Served = Served::OneOf(&[1, 32_773]);
 
 /// What the samples of a page are (tag 262): grey with 0 white, grey with 0 black, three colours, or indices of colours.
 pub const COLOURS: Served = Served::FromTo(0, 3);

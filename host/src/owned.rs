@@ -34,6 +34,43 @@ pub fn marked(damage: &[u8], strip: Strip, predict: bool) -> Result<(Vec<u8>, us
     Ok((out, count))
 }
 
+/// [`unpack_row`] of a row of so many bytes into a new `Vec`, and how many bytes of `packed` it takes.
+///
+/// Refuses: a row that there is no memory for is Limit; then as [`unpack_row`].
+///
+/// ```
+/// assert_eq!(hamrisk::unpacked(&[254, 9, 0, 1], 3), Ok((vec![9, 9, 9], 2)));
+/// ```
+pub fn unpacked(packed: &[u8], row_bytes: usize) -> Result<(Vec<u8>, usize), Refusal> {
+    let mut row = zeros(row_bytes)?;
+    let used = unpack_row(packed, &mut row)?;
+    Ok((row, used))
+}
+
+/// A row packed by [`Plan::of`] it, in a new `Vec`: [`packed_length`] bytes at most.
+///
+/// ```
+/// use hamrisk::{packed, unpacked};
+///
+/// let row = [7, 8, 9, 9, 9];
+/// assert_eq!(packed(&row), [1, 7, 8, 254, 9]);
+/// assert_eq!(unpacked(&packed(&row), 5), Ok((row.to_vec(), 5)));
+/// ```
+pub fn packed(row: &[u8]) -> Vec<u8> {
+    let plan = Plan::of(row);
+    let mut out = vec![0; plan.length()];
+    write_plan(row, &plan, &mut out).expect("a row's own plan is written");
+    out
+}
+
+/// So many zeros, if there is memory for them.
+pub(crate) fn zeros(length: usize) -> Result<Vec<u8>, Refusal> {
+    let mut bytes = Vec::new();
+    bytes.try_reserve_exact(length).map_err(|_| Refusal::Limit)?;
+    bytes.resize(length, 0);
+    Ok(bytes)
+}
+
 /// [`render`] into a new `Vec`. Refuses as [`render`], but for a short output.
 pub fn rendered(layout: &Layout, file: &[u8], raw: &[u8]) -> Result<Vec<u8>, Refusal> {
     let mut out = vec![0; check_layout(layout)?.output_length];

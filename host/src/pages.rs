@@ -1,5 +1,6 @@
 //! What a user wants of a TIFF file in one call: the picture of a page, its samples, or where its strips stand.
 
+use crate::owned::zeros;
 use crate::*;
 use std::ops::Range;
 
@@ -21,7 +22,7 @@ pub struct Samples {
     pub bytes: Vec<u8>,
 }
 
-/// The picture of a page of a TIFF file, counted from 0: its strips gathered, prediction undone, and rendered.
+/// The picture of a page of a TIFF file, counted from 0: its strips gathered, compression and prediction undone, and rendered.
 ///
 /// Refuses: as [`read_directory`]; then planes or a picture that there is no memory for is Limit.
 ///
@@ -53,8 +54,8 @@ pub fn picture(file: &[u8], page: usize) -> Result<Picture, Refusal> {
     Ok(Picture { page: found, bytes })
 }
 
-/// The samples of a page of a TIFF file, counted from 0, in the asked byte order: its strips gathered, and prediction
-/// undone. Samples of 8 bits and fewer are the same in both orders.
+/// The samples of a page of a TIFF file, counted from 0, in the asked byte order: its strips gathered, compression and
+/// prediction undone. Samples of 8 bits and fewer are the same in both orders.
 ///
 /// Refuses: as [`read_directory`]; then planes that there is no memory for, as of [`picture`], is Limit.
 ///
@@ -88,23 +89,38 @@ fn places(file: &[u8], page: usize, strips: usize) -> Result<Vec<Range<usize>>, 
     Ok(parts.chunks_exact(2).map(|part| part[0]..part[0] + part[1]).collect())
 }
 
-/// The planes that a page's strips are, end to end. A row never crosses a strip, so each is converted where it stands.
+/// The planes that a page's strips are, end to end, unpacked and converted. A row never crosses a strip.
 fn planes(file: &[u8], page: usize, found: &Page, order: ByteOrder) -> Result<Vec<u8>, Refusal> {
     let coding = Coding { from: found.layout.order, to: order, predict: found.predict };
     let mut planes = zeros(found.derived.scratch_length)?;
     let mut rest = &mut planes[..];
     for place in places(file, page, found.strips)? {
-        let (out, later) = rest.split_at_mut(place.len());
-        convert(&file[place], found.geometry(), coding, out)?;
-        rest = later;
+        rest = match found.compression {
+            Compression::None => put_strip(&file[place], found.geometry(), coding, rest)?,
+            Compression::PackBits => put_packed_strip(&file[place], found.geometry(), coding, rest)?,
+        };
     }
     Ok(planes)
 }
 
-/// So many zeros, if there is memory for them.
-fn zeros(length: usize) -> Result<Vec<u8>, Refusal> {
-    let mut bytes = Vec::new();
-    bytes.try_reserve_exact(length).map_err(|_| Refusal::Limit)?;
-    bytes.resize(length, 0);
-    Ok(bytes)
+/// Converts a strip to the front of the planes; answers what is left of these.
+fn put_strip<'a>(raw: &[u8], strip: Strip, coding: Coding, planes: &'a mut [u8]) -> Result<&'a mut [u8], Refusal> {
+    let (out, rest) = planes.split_at_mut(raw.len());
+    convert(raw, strip, coding, out)?;
+    Ok(rest)
+}
+
+/// The same of a strip whose rows are packed, to its last byte.
+fn put_packed_strip<'a>(
+    mut packed: &[u8],
+    strip: Strip,
+    coding: Coding,
+    mut planes: &'a mut [u8],
+) -> Result<&'a mut [u8], Refusal> {
+    let mut row = vec![0; strip.row_bytes];
+    while !packed.is_empty() {
+        packed = &packed[unpack_row(packed, &mut row)?..];
+        planes = put_strip(&row, strip, coding, planes)?;
+    }
+    Ok(planes)
 }

@@ -2,10 +2,13 @@
 //! decides what is served; this says which directory, tag or strip a refusal is about, and with which number. It calls
 //! nothing of the library, and the tests hold the two against each other.
 
+mod row;
 mod words;
 
+pub use row::{explain_row, RowFault};
+
 use crate::limits::{MOST_ENTRIES, MOST_PAGES, MOST_PICTURE_BYTES, MOST_SIDE};
-use crate::{ByteOrder, Layout, Refusal};
+use crate::{ByteOrder, Compression, Layout, Refusal};
 use std::error::Error;
 
 const SHORT: u64 = 3;
@@ -27,6 +30,8 @@ pub struct Reading {
     pub layout: Layout,
     /// 1: samples are stored as they are; 2: each is stored less the one a pixel before it.
     pub predictor: usize,
+    /// How the strips are compressed.
+    pub compression: Compression,
     /// Place and length of each strip.
     pub strips: Vec<(usize, usize)>,
 }
@@ -123,10 +128,14 @@ pub enum LayoutFault {
 pub enum StripFault {
     /// It is not there.
     Missing { strips: u64 },
-    /// Its byte count is not that of its rows.
+    /// Its byte count is not that of its rows, though it is not compressed.
     Length { length: u64, rows: u64, row_bytes: u64 },
     /// It ends past the file.
     End { place: u64, length: u64, file: u64 },
+    /// A row of it, which begins at this byte of the file, does not unpack.
+    Row { row: u64, at: u64, fault: RowFault },
+    /// Its rows, unpacked, end before it does.
+    LeftOver { rows: u64, end: u64, bytes: u64 },
 }
 
 /// What the directory of a page says, or the first fault of the file, of the directories up to it, of its tags, its
@@ -141,7 +150,7 @@ pub fn explain(file: &[u8], page: usize) -> Result<Reading, Fault> {
     let fields = fields(&directory(file, page)?)?;
     let layout = layout(&fields)?;
     let strips = (0..fields.places.count as usize).map(|k| strip(&fields, k)).collect::<Result<_, _>>()?;
-    Ok(Reading { layout, predictor: fields.predictor as usize, strips })
+    Ok(Reading { layout, predictor: fields.predictor as usize, compression: fields.compression, strips })
 }
 
 /// Place and length of a strip, or the first fault of all that [`explain`] looks at before strips, of the strip's number
@@ -155,10 +164,11 @@ pub fn explain_strip(file: &[u8], page: usize, k: usize) -> Result<(usize, usize
     strip(&fields, k)
 }
 
-/// Layout, predictor and number of strips of a page, or the first fault of all that [`explain`] looks at before strips.
-pub fn explain_layout(file: &[u8], page: usize) -> Result<(Layout, usize, usize), Fault> {
+/// Layout, predictor, compression and number of strips of a page, or the first fault of all that [`explain`] looks at before
+/// strips.
+pub fn explain_layout(file: &[u8], page: usize) -> Result<(Layout, usize, Compression, usize), Fault> {
     let fields = fields(&directory(file, page)?)?;
-    Ok((layout(&fields)?, fields.predictor as usize, fields.places.count as usize))
+    Ok((layout(&fields)?, fields.predictor as usize, fields.compression, fields.places.count as usize))
 }
 
 /// A tag that is not looked at, with a value that gives the samples or the rows of a page another meaning than the one
@@ -347,6 +357,7 @@ struct Fields<'a> {
     w: u64,
     h: u64,
     bits: u64,
+    compression: Compression,
     kind: u64,
     places: Values<'a>,
     samples: u64,
@@ -389,6 +400,15 @@ fn bits(directory: &Directory) -> Result<(u64, u64), Fault> {
         wrong_if(!good, 258, TagFault::Value { number, value })?;
     }
     Ok((values.count, first))
+}
+
+/// 259: how strips are compressed.
+fn compression(directory: &Directory) -> Result<Compression, Fault> {
+    match directory.value_or(259, 1)? {
+        1 => Ok(Compression::None),
+        32_773 => Ok(Compression::PackBits),
+        value => Err(Fault::Tag { tag: 259, fault: TagFault::Value { number: 0, value } }),
+    }
 }
 
 /// 277: the samples of a pixel.
@@ -440,8 +460,7 @@ fn fields<'a>(directory: &Directory<'a>) -> Result<Fields<'a>, Fault> {
     let w = directory.needed(256)?.get(0);
     let h = directory.needed(257)?.get(0);
     let (bit_count, bits) = bits(directory)?;
-    let compression = directory.value_or(259, 1)?;
-    served(259, compression, compression == 1)?;
+    let compression = compression(directory)?;
     let kind = directory.needed(262)?.get(0);
     served(262, kind, kind <= 3)?;
     let places = directory.needed(273)?;
@@ -455,7 +474,21 @@ fn fields<'a>(directory: &Directory<'a>) -> Result<Fields<'a>, Fault> {
     served(317, predictor, predictor == 1 || (predictor == 2 && bits >= 8))?;
     let map = if kind == PALETTE { map(directory, bits)? } else { 0 };
     let alpha = alpha(directory, samples, own)?;
-    Ok(Fields { w, h, bits, kind, places, samples, rows_per_strip, lengths, separate, predictor, map, alpha })
+    Ok(Fields {
+        w,
+        h,
+        bits,
+        compression,
+        kind,
+        places,
+        samples,
+        rows_per_strip,
+        lengths,
+        separate,
+        predictor,
+        map,
+        alpha,
+    })
 }
 
 /// The layout of the page, if the layout check has no fault of it. Those that the tags leave no room for are not looked for.
@@ -503,14 +536,31 @@ fn strip(fields: &Fields, k: usize) -> Result<(usize, usize), Fault> {
     let rows = rows_per_strip.min(h - in_plane * rows_per_strip);
     let (place, length) = (fields.places.get(k as u64), fields.lengths.get(k as u64));
     let wrong = |fault| Err(Fault::Strip { strip: k, fault });
-    if length != rows * row_bytes {
+    if fields.compression == Compression::None && length != rows * row_bytes {
         return wrong(StripFault::Length { length, rows, row_bytes });
     }
     let file = fields.places.source.length();
     if place + length > file {
         return wrong(StripFault::End { place, length, file });
     }
-    Ok((place as usize, length as usize))
+    let (place, length) = (place as usize, length as usize);
+    if fields.compression == Compression::PackBits {
+        let up_to_end = &fields.places.source.bytes[..place + length];
+        packed_rows(up_to_end, place, rows, row_bytes as usize).map_err(|fault| Fault::Strip { strip: k, fault })?;
+    }
+    Ok((place, length))
+}
+
+/// The rows of a strip from a place to the end of these bytes.
+fn packed_rows(bytes: &[u8], place: usize, rows: u64, row_bytes: usize) -> Result<(), StripFault> {
+    let mut at = place;
+    for row in 0..rows {
+        at = explain_row(bytes, at, row_bytes).map_err(|fault| StripFault::Row { row, at: at as u64, fault })?;
+    }
+    if at < bytes.len() {
+        return Err(StripFault::LeftOver { rows, end: at as u64, bytes: (bytes.len() - at) as u64 });
+    }
+    Ok(())
 }
 
 impl Fault {
@@ -518,6 +568,7 @@ impl Fault {
     pub fn refusal(&self) -> Refusal {
         match self {
             Fault::PageLimit { .. } | Fault::EntryLimit { .. } => Refusal::Limit,
+            Fault::Strip { fault: StripFault::Row { fault, .. }, .. } => fault.refusal(),
             Fault::NoHeader { .. }
             | Fault::NoCount { .. }
             | Fault::DirectoryEnd { .. }
@@ -587,7 +638,8 @@ mod tests {
     #[test]
     fn a_grey_page_of_two_strips() {
         let layout = Layout::grey(4, 3, ByteOrder::Little);
-        let reading = Reading { layout, predictor: 1, strips: vec![(200, 8), (208, 4)] };
+        let strips = vec![(200, 8), (208, 4)];
+        let reading = Reading { layout, predictor: 1, compression: Compression::None, strips };
         assert_eq!(explain(&file(&GREY), 0), Ok(reading));
         assert_eq!(explain_strip(&file(&GREY), 0, 1), Ok((208, 4)));
     }
@@ -603,7 +655,8 @@ mod tests {
         ];
         let file = [&[b'M', b'M', 0, 42, 0, 0, 0, 8, 0, 5][..], &entries.concat(), &[0; 4]].concat();
         let layout = Layout { white: true, ..Layout::bilevel(9, 2, ByteOrder::Big) };
-        assert_eq!(explain(&file, 0), Ok(Reading { layout, predictor: 1, strips: vec![(0, 4)] }));
+        let reading = Reading { layout, predictor: 1, compression: Compression::None, strips: vec![(0, 4)] };
+        assert_eq!(explain(&file, 0), Ok(reading));
     }
 
     #[test]
@@ -668,7 +721,7 @@ mod tests {
 
     #[test]
     fn values_that_are_not_served() {
-        let text = "tag 259 (Compression): its value is 5 (LZW); only 1, not compressed, is served";
+        let text = "tag 259 (Compression): its value is 5 (LZW); served are 1, not compressed, and 32773, PackBits";
         assert_fault(&with((259, 3, 1, 5)), 0, Refusal::Unsupported, text);
         let text = "tag 258 (BitsPerSample): its value is 32; served are 1, 4, 8 and 16, the same for all samples";
         assert_fault(&with((258, 3, 1, 32)), 0, Refusal::Unsupported, text);
@@ -752,5 +805,37 @@ mod tests {
         assert_eq!(explain_strip(cut, 0, 0), Ok((200, 8)));
         let fault = explain_strip(cut, 0, 2).unwrap_err();
         assert_eq!(fault.to_string(), "strip 2 is not there: the page has 2 strips");
+    }
+
+    /// The grey file with packed strips, the first of these bytes.
+    fn with_packed(first: &[u8]) -> Vec<u8> {
+        let mut file = with((259, 3, 1, 32_773));
+        // its last entry is 279's
+        let lengths = 10 + 12 * GREY.len() + 8;
+        file[lengths..lengths + 4].copy_from_slice(&(first.len() as u32 + (2 << 16)).to_le_bytes());
+        file[200..200 + first.len()].copy_from_slice(first);
+        file[208..210].copy_from_slice(&[253, 9]);
+        file
+    }
+
+    #[test]
+    fn packed_strips() {
+        let layout = Layout::grey(4, 3, ByteOrder::Little);
+        let good = with_packed(&[253, 7, 128, 3, 1, 2, 3, 4]);
+        let (compression, strips) = (Compression::PackBits, vec![(200, 8), (208, 2)]);
+        assert_eq!(explain(&good, 0), Ok(Reading { layout, predictor: 1, compression, strips }));
+        assert_eq!(explain_layout(&good, 0), Ok((layout, 1, compression, 2)));
+        let text = "strip 0: row 1, from byte 202: the packet at byte 204 has 3 bytes, and the row has room for 2";
+        assert_fault(&with_packed(&[253, 7, 255, 7, 2]), 0, Refusal::Invalid, text);
+        let text = "strip 0: row 1, from byte 202: its input ends at byte 204, with 2 of its 4 bytes filled";
+        assert_fault(&with_packed(&[253, 7, 255, 7]), 0, Refusal::Truncated, text);
+        let text =
+            "strip 0: row 0, from byte 200: the packet at byte 200 takes 5 bytes, and its input ends at byte 204";
+        assert_fault(&with_packed(&[3, 1, 2, 3]), 0, Refusal::Truncated, text);
+        let text = "strip 0: its rows 2 end at byte 204, and 1 byte is left over";
+        assert_fault(&with_packed(&[253, 7, 253, 7, 128]), 0, Refusal::Invalid, text);
+        let text = "strip 1: at byte 208 with 2 bytes it ends at byte 210, the file at byte 209";
+        assert_fault(&good[..209], 0, Refusal::Truncated, text);
+        assert_eq!(explain_strip(&good[..209], 0, 0), Ok((200, 8)));
     }
 }

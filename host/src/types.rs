@@ -188,10 +188,30 @@ pub struct Derived {
     pub colours: usize,
 }
 
+/// How the strips of a page are compressed (tag 259).
+#[derive(Clone, Copy, Debug, PartialEq, Eq, Hash)]
+pub enum Compression {
+    /// Not at all.
+    None = 1,
+    /// PackBits, each row on its own.
+    PackBits = 32_773,
+}
+
+impl Compression {
+    /// The one of a page's number, which is served.
+    pub(crate) fn of(number: usize) -> Compression {
+        match number {
+            1 => Compression::None,
+            32_773 => Compression::PackBits,
+            other => unreachable!("a page has a compression that is served, not {other}"),
+        }
+    }
+}
+
 /// A page of a TIFF file.
 #[derive(Clone, Copy, Debug, PartialEq, Eq, Hash)]
 pub struct Page {
-    /// Its picture, and how the planes hold it: its strips end to end are the planes.
+    /// Its picture, and how the planes hold it: its strips end to end, once unpacked, are the planes.
     pub layout: Layout,
     /// What follows from the layout.
     pub derived: Derived,
@@ -199,10 +219,13 @@ pub struct Page {
     pub predict: bool,
     /// How many strips it has.
     pub strips: usize,
+    /// How they are compressed.
+    pub compression: Compression,
 }
 
 impl Page {
-    /// The geometry of its strips, for [`convert`](crate::convert) and [`marks`](crate::marks).
+    /// The geometry of its strips, unpacked where they are compressed, for [`convert`](crate::convert) and
+    /// [`marks`](crate::marks).
     pub fn geometry(&self) -> Strip {
         let Derived { encoded_width, plane_channels, .. } = self.derived;
         let width = self.layout.bytes;

@@ -17,6 +17,6 @@ fn the_c_program_finds_no_difference() {
     let compiled = compiler.output().unwrap_or_else(|error| panic!("{compiler:?}: {error}"));
     assert!(compiled.status.success(), "{}", String::from_utf8_lossy(&compiled.stderr));
     let run = runner::program(&program).output().expect("the program runs");
-    assert_eq!(String::from_utf8_lossy(&run.stdout), "72 checks, 0 differ\n");
+    assert_eq!(String::from_utf8_lossy(&run.stdout), "86 checks, 0 differ\n");
     assert!(run.status.success());
 }

@@ -286,6 +286,82 @@ fn swap_and_reverse() {
 }
 
 #[test]
+fn pack_and_unpack() {
+    let folder = Folder::new("pack");
+    // a run that passes the row's end is cut there
+    let rows = [7, 7, 7, 8, 9, 9, 9, 9, 9, 9];
+    let packed = folder.written(&rows, "pack in out --row-bytes 5");
+    assert_eq!(packed, [254, 7, 1, 8, 9, 252, 9]);
+    assert_eq!(folder.written(&packed, "unpack in out --row-bytes=5"), rows);
+    let literals = folder.written(&rows, "pack --literal --row-bytes 5 in out");
+    assert_eq!(literals, [4, 7, 7, 7, 8, 9, 4, 9, 9, 9, 9, 9]);
+    assert_eq!(folder.written(&literals, "unpack in out --row-bytes 5"), rows);
+    for line in ["pack in out --row-bytes 5", "pack in out --row-bytes 5 --literal", "unpack in out --row-bytes 5"] {
+        assert_eq!(folder.written(&[], line), [], "{line}");
+    }
+    // a packet of nothing before the last row
+    assert_eq!(folder.written(&[253, 1, 128, 253, 2], "unpack in out --row-bytes 4"), [1, 1, 1, 1, 2, 2, 2, 2]);
+}
+
+/// More than a piece of the work, in rows longer than a packet and shorter.
+#[test]
+fn pack_of_a_large_file() {
+    let folder = Folder::new("pack-large");
+    let runs = |n: u32| (n.wrapping_mul(2_654_435_761) >> 27) as usize;
+    let rows: Vec<u8> = (0..).flat_map(|n| vec![n as u8; runs(n)]).take(9_000_000).collect();
+    for row_bytes in [3_000, 100, 9_000_000] {
+        let packed = folder.written(&rows, &format!("pack in out --row-bytes {row_bytes}"));
+        assert!(packed.len() < rows.len() / 4, "{row_bytes}: {} bytes", packed.len());
+        let expected: Vec<u8> = rows.chunks(row_bytes).flat_map(hamrisk::packed).collect();
+        assert!(packed == expected, "{row_bytes}");
+        assert!(folder.written(&packed, &format!("unpack in out --row-bytes {row_bytes}")) == rows, "{row_bytes}");
+        let literals = folder.written(&rows, &format!("pack in out --literal --row-bytes {row_bytes}"));
+        assert_eq!(literals.len(), rows.len() / row_bytes * hamrisk::packed_length(row_bytes));
+        assert!(folder.written(&literals, &format!("unpack in out --row-bytes {row_bytes}")) == rows, "{row_bytes}");
+    }
+}
+
+#[test]
+fn refusals_name_the_row() {
+    let folder = Folder::new("pack-refusals");
+    for line in ["pack in out --row-bytes 5", "pack in out --row-bytes 5 --literal"] {
+        let words = "pack refused: 2 Invalid: length 12 is no multiple of row bytes 5: 2 left over";
+        folder.refused(&[7; 12], line, 2, words);
+    }
+    for (packed, status, words) in [
+        (
+            &[253, 1, 128, 1, 1, 2, 3, 1, 2, 3, 4][..],
+            2,
+            "2 Invalid: row 1, from byte 2: the packet at byte 6 has 4 bytes, and the row has room for 2",
+        ),
+        (
+            &[253, 1, 252],
+            2,
+            "2 Invalid: row 1, from byte 2: the packet at byte 2 has 5 bytes, and the row has room for 4",
+        ),
+        (
+            &[253, 1, 255, 1],
+            3,
+            "3 Truncated: row 1, from byte 2: its input ends at byte 4, with 2 of its 4 bytes filled",
+        ),
+        (
+            &[253, 1, 253, 1, 3, 1, 2],
+            3,
+            "3 Truncated: row 2, from byte 4: the packet at byte 4 takes 5 bytes, and its input ends at byte 7",
+        ),
+        // a packet of nothing begins a row that does not come
+        (&[253, 1, 128], 3, "3 Truncated: row 1, from byte 2: its input ends at byte 3, with 0 of its 4 bytes filled"),
+    ] {
+        folder.refused(packed, "unpack in out --row-bytes 4", status, &format!("unpack refused: {words}"));
+    }
+    let (status, output, error) = folder.piped(&[253, 1, 0], "unpack - - --row-bytes 4");
+    assert_eq!((status, output), (3, vec![]), "{error}");
+    folder.wrong("pack", "in out --row-bytes 0", "--row-bytes wants 1 to 1073741824, not 0");
+    folder.wrong("unpack", "in out --row-bytes 0", "--row-bytes wants 1 to 1073741824, not 0");
+    folder.wrong("unpack", "in out", "--row-bytes is missing");
+}
+
+#[test]
 fn render_and_planes() {
     let folder = Folder::new("render");
     let apart = "--w 2 --h 1 --ch 3 --separate";
@@ -461,6 +537,13 @@ fn wrong_command_lines_end_with_64() {
         "stream in out --row-bytes 6 --channels 1 --width 1 --predict",
         "stream --row-bytes 6 --channels 1 --width 1 --predict --pgm",
         "stream --row-bytes 6 --width 1 --predict",
+        "pack in out",
+        "pack in out --row-bytes 0",
+        "pack in out --row-bytes 1073741825",
+        "pack in out --row-bytes 4 --literal=1",
+        "unpack in out",
+        "unpack in out --row-bytes 0",
+        "unpack in out --row-bytes 4 --literal",
         "render in out --w 2",
         "render in out --w 2 --h 1 --bytes 2 --le --be",
         "render in out --w 2 --h 1 --ch 3 --palette --le",
@@ -535,6 +618,8 @@ fn every_command_stands_in_a_pipe() {
         (&format!("forward {strip} --from be --to le"), &[0, 1, 0, 3], &[1, 0, 2, 0]),
         ("swap - - --width 3", &[1, 2, 3], &[3, 2, 1]),
         ("reverse - -", &[1, 80], &[128, 10]),
+        ("pack - - --row-bytes 3", &[7, 7, 7], &[254, 7]),
+        ("unpack - - --row-bytes 3", &[254, 7], &[7, 7, 7]),
         (&format!("render {apart}"), &[1, 2, 3, 4, 5, 6], &[1, 3, 5, 2, 4, 6]),
         (&format!("planes {apart}"), &[1, 3, 5, 2, 4, 6], &[1, 2, 3, 4, 5, 6]),
         ("render - - --w 1 --h 1 --pnm", &[7], b"P5\n1 1\n255\n\x07"),
@@ -640,8 +725,8 @@ fn help_of_each() {
     let (status, overview, _) = folder.run("--help");
     assert_eq!(status, 0);
     for name in [
-        "info", "picture", "samples", "convert", "stream", "forward", "marks", "swap", "reverse", "render", "planes",
-        "wrap", "demo",
+        "info", "picture", "samples", "convert", "stream", "forward", "marks", "swap", "reverse", "pack", "unpack",
+        "render", "planes", "wrap", "demo",
     ] {
         assert!(overview.contains(&format!("\n  {name} ")), "{name}");
         let (status, text, error) = folder.run(&format!("{name} --help"));
@@ -659,6 +744,8 @@ fn help_of_each() {
         ("planes", "channels of a pixel of the picture, 1 to 4; 1 if not given"),
         ("wrap", "rows of a strip, 1 to h; as many as take 8192 bytes or fewer, but one at least, if not given"),
         ("info", "which page, 0 to 15; 0, the first, if not given"),
+        ("pack", "bytes of a row, 1 to 1073741824; required"),
+        ("unpack", "bytes of a row, 1 to 1073741824; required"),
     ] {
         let (_, text, _) = folder.run(&format!("{name} --help"));
         assert!(text.contains(served), "{text}");
@@ -702,6 +789,7 @@ bits: 16
 colours: grey, 0 is black
 planes: together
 alpha: 0 (none)
+compression: 1 (none)
 predictor: 2 (each sample less the one a pixel before it)
 strips: 3
 rows of a strip: 2, the last 1
@@ -718,6 +806,43 @@ strip 2: place 158, length 6
     assert_eq!(folder.run("info depth.tif --strips"), (0, format!("{facts}{strips}"), String::new()));
     let streamed = folder.piped(&depth(ByteOrder::Big), "info -");
     assert_eq!(streamed, (0, facts.as_bytes().to_vec(), String::new()));
+}
+
+/// The page of `depth` with its strips packed.
+fn packed_depth(order: ByteOrder) -> Vec<u8> {
+    let file = depth(order);
+    let strips = hamrisk::placed(&file, 0).unwrap().into_iter().map(|place| &file[place]);
+    let packed: Vec<Vec<u8>> = strips.map(|strip| strip.chunks(6).flat_map(hamrisk::packed).collect()).collect();
+    let packed: Vec<&[u8]> = packed.iter().map(|strip| &strip[..]).collect();
+    tiff::file(order, &[Page::grey(3, 5, 16, &packed).with(259, &[32_773]).with(278, &[2]).with(317, &[2])])
+}
+
+#[test]
+fn packed_pages() {
+    let folder = Folder::new("packed-page");
+    folder.put("packed.tif", &packed_depth(ByteOrder::Big));
+    folder.put("depth.tif", &depth(ByteOrder::Big));
+    let info = |name: &str| folder.run(&format!("info {name}"));
+    let expected =
+        info("depth.tif").1.replace("compression: 1 (none)", "compression: 32773 (PackBits, each row on its own)");
+    assert_eq!(info("packed.tif"), (0, expected, String::new()));
+    let (_, strips, _) = folder.run("info packed.tif --strips");
+    assert!(strips
+        .ends_with("strip 0: place 146, length 14\nstrip 1: place 160, length 14\nstrip 2: place 174, length 7\n"));
+    for order in [ByteOrder::Little, ByteOrder::Big] {
+        let file = packed_depth(order);
+        assert_eq!(folder.written(&file, "picture in out"), depths(ByteOrder::Big));
+        assert_eq!(folder.written(&file, "samples in out --to le"), depths(ByteOrder::Little));
+    }
+    let mut spoiled = packed_depth(ByteOrder::Big);
+    spoiled[160] += 1;
+    let words = "strip 1: row 0, from byte 160: the packet at byte 160 has 7 bytes, and the row has room for 6";
+    folder.refused(&spoiled, "picture in out", 2, &format!("picture refused: 2 Invalid: {words}"));
+    folder.put("in", &spoiled);
+    let (status, text, error) = folder.run("info in --strips");
+    assert_eq!((status, error), (2, format!("hamrisk: info refused: 2 Invalid: {words}\n")));
+    assert!(text.contains("\nstrips: 3, of which 2 are sound\n") && !text.contains("rows of a strip"), "{text}");
+    assert!(text.contains(&format!("\n{words} (2 Invalid)\n")), "{text}");
 }
 
 /// Facts that another page has.
@@ -1012,6 +1137,9 @@ fn refusals_name_the_tag() {
         (of(Page::grey(16_385, 1, 8, &[&[0; 16_385]])), "0", 5, "tag 256 (ImageWidth)"),
         (of(colours().with(257, &[2]).with(278, &[2])), "0", 2, "strip 0: its byte count is 6"),
         (good[..good.len() - 1].to_vec(), "0", 3, "strip 0: at byte"),
+        (of(Page::grey(2, 1, 8, &[&[254, 7]]).with(259, &[32_773])), "0", 2, "strip 0: row 0, from byte"),
+        (of(Page::grey(2, 1, 8, &[&[255]]).with(259, &[32_773])), "0", 3, "strip 0: row 0, from byte"),
+        (of(Page::grey(2, 1, 8, &[&[255, 7, 128]]).with(259, &[32_773])), "0", 2, "strip 0: its rows 1 end at byte"),
     ] {
         let kind = ["", "Unsupported", "Invalid", "Truncated", "OutputTooSmall", "Limit"][status as usize];
         folder.put("in", &file);

@@ -4,8 +4,8 @@ mod tiff;
 
 use hamrisk::limits::{self, Served, MOST_ENTRIES, MOST_PAGES, MOST_PICTURE_BYTES, MOST_SIDE, MOST_STRIP_BYTES};
 use hamrisk::{
-    check_layout, check_strip, file_length, read_directory, read_word, rendered, swap_components, written, ByteAt,
-    ByteOrder, Coding, Layout, Packets, Refusal, Strip,
+    check_layout, check_strip, file_length, read_directory, read_word, rendered, swap_components, write_plan, written,
+    ByteAt, ByteOrder, Coding, Layout, Packets, Plan, Planned, Refusal, Strip,
 };
 use tiff::Page;
 
@@ -56,6 +56,18 @@ fn bytes_of_a_strip_in_pieces() {
     assert_eq!(packets.piece(&[0; 9], &mut [0; 8]), Ok(8));
     assert_eq!(packets.piece(&zeros[9..], &mut []), Err(Refusal::Limit));
     assert_eq!(packets.piece(&zeros[10..], &mut []), Err(Refusal::OutputTooSmall));
+}
+
+#[test]
+fn bytes_of_a_planned_packet() {
+    for bytes in 0..=255 {
+        for (packet, served) in [(Planned::Literal(bytes), limits::LITERALS), (Planned::Repeat(bytes), limits::REPEATS)]
+        {
+            let plan: Plan = [packet].into_iter().collect();
+            let answer = write_plan(&vec![7; bytes.into()], &plan, &mut [0; 256]);
+            assert_eq!(answer.is_ok(), served.has(bytes.into()), "{packet:?}; {served} are said to be served");
+        }
+    }
 }
 
 #[test]

@@ -3,8 +3,8 @@
 mod tiff;
 
 use hamrisk::{
-    check_layout, forwarded, picture, placed, read_directory, rendered, samples, strip, strip_place, swap_components,
-    ByteOrder, Coding, Layout, Refusal, Strip,
+    check_layout, forwarded, pack_row, packed, packed_length, picture, placed, read_directory, rendered, samples,
+    strip, strip_place, swap_components, ByteOrder, Coding, Compression, Layout, Refusal, Strip,
 };
 use tiff::Page;
 
@@ -41,6 +41,16 @@ struct Stored {
     separate: bool,
     predict: bool,
     rows_per_strip: usize,
+    packed: Option<Packer>,
+}
+
+/// How a row is packed.
+type Packer = fn(&[u8]) -> Vec<u8>;
+
+fn literals(row: &[u8]) -> Vec<u8> {
+    let mut out = vec![0; packed_length(row.len())];
+    pack_row(row, &mut out).unwrap();
+    out
 }
 
 fn every_way(kind: Kind) -> Vec<Stored> {
@@ -48,7 +58,10 @@ fn every_way(kind: Kind) -> Vec<Stored> {
     for order in [ByteOrder::Little, ByteOrder::Big] {
         for separate in [false, true].into_iter().take(if kind.colours == 3 { 1 } else { 2 }) {
             for predict in [false, true].into_iter().take(if kind.bits < 8 { 1 } else { 2 }) {
-                ways.extend([1, 2, 4, H, 9].map(|rows_per_strip| Stored { order, separate, predict, rows_per_strip }));
+                for packed in [None, Some(packed as Packer), Some(literals)] {
+                    let stored = |rows_per_strip| Stored { order, separate, predict, rows_per_strip, packed };
+                    ways.extend([1, 2, 4, H, 9].map(stored));
+                }
             }
         }
     }
@@ -79,11 +92,16 @@ impl Kind {
 
     /// The strips that hold these planes.
     fn strips(self, planes: &[u8], stored: Stored) -> Vec<Vec<u8>> {
-        let Stored { order, separate, predict, rows_per_strip } = stored;
+        let Stored { order, separate, predict, rows_per_strip, packed } = stored;
         let strip = self.strip(separate);
         let of_plane = |plane: &[u8]| -> Vec<Vec<u8>> {
             let strips = plane.chunks(rows_per_strip * strip.row_bytes);
-            strips.map(|rows| forwarded(rows, strip, Coding { from: order, to: order, predict }).unwrap()).collect()
+            let words = strips.map(|rows| forwarded(rows, strip, Coding { from: order, to: order, predict }).unwrap());
+            let stored = |words: Vec<u8>| match packed {
+                None => words,
+                Some(pack) => words.chunks(strip.row_bytes).flat_map(pack).collect(),
+            };
+            words.map(stored).collect()
         };
         planes.chunks(H * strip.row_bytes).flat_map(of_plane).collect()
     }
@@ -93,6 +111,7 @@ impl Kind {
         let number = |flag: bool| if flag { 2 } else { 1 };
         let mut page = Page::grey(W as u32, H as u32, 0, &strips)
             .with(258, &vec![self.bits as u32; self.samples])
+            .with(259, &[if stored.packed.is_some() { 32_773 } else { 1 }])
             .with(262, &[self.colours])
             .with(277, &[self.samples as u32])
             .with(278, &[stored.rows_per_strip as u32])
@@ -122,7 +141,7 @@ fn files_of_every_kind() {
             files += 1;
         }
     }
-    assert_eq!(files, 320);
+    assert_eq!(files, 960);
 }
 
 fn check(kind: Kind, stored: Stored) {
@@ -139,6 +158,7 @@ fn check(kind: Kind, stored: Stored) {
         (page.predict, page.strips, page.geometry()),
         (stored.predict, strips.len(), kind.strip(stored.separate))
     );
+    assert_eq!(page.compression == Compression::PackBits, stored.packed.is_some(), "{case}");
     let places = placed(&file, 1).unwrap();
     for (k, bytes) in strips.iter().enumerate() {
         assert_eq!(strip_place(&file, 1, k).as_ref(), Ok(&places[k]), "{case}");
@@ -160,17 +180,53 @@ fn check(kind: Kind, stored: Stored) {
 /// The sound strips of a file that lost its end are there; its picture and its samples are not.
 #[test]
 fn a_file_that_lost_its_end() {
-    let stored = Stored { order: ByteOrder::Big, separate: true, predict: true, rows_per_strip: 2 };
-    let planes = noise(W * H * 6);
-    let strips = KINDS[6].strips(&planes, stored);
-    let file = KINDS[6].file(&strips, stored);
-    let lost = &file[..file.len() - 1];
-    for (k, bytes) in strips.iter().enumerate() {
-        let expected = if k + 1 == strips.len() { Err(Refusal::Truncated) } else { Ok(&bytes[..]) };
-        assert_eq!(strip(lost, 1, k), expected, "{k}");
+    for packed in [None, Some(packed as Packer)] {
+        let stored = Stored { order: ByteOrder::Big, separate: true, predict: true, rows_per_strip: 2, packed };
+        let planes = noise(W * H * 6);
+        let strips = KINDS[6].strips(&planes, stored);
+        let file = KINDS[6].file(&strips, stored);
+        let lost = &file[..file.len() - 1];
+        for (k, bytes) in strips.iter().enumerate() {
+            let expected = if k + 1 == strips.len() { Err(Refusal::Truncated) } else { Ok(&bytes[..]) };
+            assert_eq!(strip(lost, 1, k), expected, "{k}");
+        }
+        assert_eq!(picture(lost, 1), Err(Refusal::Truncated));
+        assert_eq!(samples(lost, 1, ByteOrder::Big), Err(Refusal::Truncated));
+        assert_eq!(placed(lost, 1), Err(Refusal::Truncated));
+        assert_eq!(picture(lost, 0).unwrap().bytes, [7]);
     }
-    assert_eq!(picture(lost, 1), Err(Refusal::Truncated));
-    assert_eq!(samples(lost, 1, ByteOrder::Big), Err(Refusal::Truncated));
-    assert_eq!(placed(lost, 1), Err(Refusal::Truncated));
-    assert_eq!(picture(lost, 0).unwrap().bytes, [7]);
+}
+
+/// A page of two packed rows of three grey bytes, in one strip of these bytes.
+fn grey_rows(strip: &[u8]) -> Vec<u8> {
+    tiff::file(ByteOrder::Little, &[Page::grey(3, 2, 8, &[strip]).with(259, &[32_773])])
+}
+
+/// Each row of a packed strip stands by itself: what passes a row's end or is left behind the last one is refused.
+#[test]
+fn packed_strips_that_are_not_their_rows() {
+    let bytes = |strip: &[u8]| picture(&grey_rows(strip), 0).map(|picture| picture.bytes);
+    assert_eq!(bytes(&[254, 7, 2, 1, 2, 3]), Ok(vec![7, 7, 7, 1, 2, 3]));
+    assert_eq!(bytes(&[128, 254, 7, 128, 128, 255, 8, 0, 9]), Ok(vec![7, 7, 7, 8, 8, 9]));
+    for (strip, refusal) in [
+        // six bytes in one packet, as if the rows were one
+        (&[251, 7][..], Refusal::Invalid),
+        (&[5, 1, 2, 3, 4, 5, 6], Refusal::Invalid),
+        (&[254, 7, 253, 7], Refusal::Invalid),
+        (&[254, 7, 3, 1], Refusal::Invalid),
+        // behind the last row
+        (&[254, 7, 254, 7, 128], Refusal::Invalid),
+        (&[254, 7, 254, 7, 254, 7], Refusal::Invalid),
+        // too few
+        (&[], Refusal::Truncated),
+        (&[254, 7], Refusal::Truncated),
+        (&[254, 7, 128], Refusal::Truncated),
+        (&[254, 7, 2, 1, 2], Refusal::Truncated),
+        (&[254, 7, 254], Refusal::Truncated),
+    ] {
+        assert_eq!(bytes(strip), Err(refusal), "{strip:?}");
+        let file = grey_rows(strip);
+        assert_eq!(placed(&file, 0), Err(refusal), "{strip:?}");
+        assert_eq!(hamrisk::explain(&file, 0).unwrap_err().refusal(), refusal, "{strip:?}");
+    }
 }

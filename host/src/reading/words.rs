@@ -1,6 +1,6 @@
 //! What faults and tags that are not looked at say to a person: the directory, tag or strip, and the number at fault.
 
-use super::{Fault, LayoutFault, Skipped, StripFault, TagFault, LONG_TAGS, TILES};
+use super::{Fault, LayoutFault, RowFault, Skipped, StripFault, TagFault, LONG_TAGS, TILES};
 use crate::limits::{MOST_ENTRIES, MOST_PAGES, MOST_PICTURE_BYTES, MOST_SIDE};
 use std::fmt;
 
@@ -60,6 +60,29 @@ impl fmt::Display for StripFault {
             StripFault::End { place, length, file } => {
                 let end = place + length;
                 write!(f, "at byte {place} with {length} bytes it ends at byte {end}, the file at byte {file}")
+            }
+            StripFault::Row { row, at, fault } => write!(f, "row {row}, from byte {at}: {fault}"),
+            StripFault::LeftOver { rows, end, bytes: 1 } => {
+                write!(f, "its rows {rows} end at byte {end}, and 1 byte is left over")
+            }
+            StripFault::LeftOver { rows, end, bytes } => {
+                write!(f, "its rows {rows} end at byte {end}, and {bytes} bytes are left over")
+            }
+        }
+    }
+}
+
+impl fmt::Display for RowFault {
+    fn fmt(&self, f: &mut fmt::Formatter) -> fmt::Result {
+        match *self {
+            RowFault::NoPacket { at, filled, row_bytes } => {
+                write!(f, "its input ends at byte {at}, with {filled} of its {row_bytes} bytes filled")
+            }
+            RowFault::PastRow { at, bytes, left } => {
+                write!(f, "the packet at byte {at} has {bytes} bytes, and the row has room for {left}")
+            }
+            RowFault::PacketEnd { at, takes, end } => {
+                write!(f, "the packet at byte {at} takes {takes} bytes, and its input ends at byte {end}")
             }
         }
     }
@@ -125,7 +148,7 @@ fn types(tag: u64) -> &'static str {
 fn values(tag: u64) -> &'static str {
     match tag {
         258 => "served are 1, 4, 8 and 16, the same for all samples",
-        259 => "only 1, not compressed, is served",
+        259 => "served are 1, not compressed, and 32773, PackBits",
         262 => "served are 0 and 1 (grey), 2 (red, green and blue) and 3 (a palette)",
         317 => "served are 1 and, from 8 bits a sample, 2",
         _ => "served are 1 and 2",
@@ -142,7 +165,6 @@ impl fmt::Display for Meant {
             (259, 5) => "LZW",
             (259, 6 | 7) => "JPEG",
             (259, 8 | 32_946) => "Deflate",
-            (259, 32_773) => "PackBits",
             (259, 34_925) => "LZMA",
             (259, 50_000) => "Zstandard",
             (259, 50_001) => "WebP",

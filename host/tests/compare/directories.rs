@@ -7,8 +7,8 @@ use crate::random::Random;
 use crate::spoiled::spoiled;
 use crate::{plain, told};
 use hamrisk::{
-    explain, explain_strip, placed, read_directory, strip, ByteOrder, Fault, Layout, LayoutFault, Reading, StripFault,
-    TagFault,
+    explain, explain_strip, placed, read_directory, strip, ByteOrder, Fault, Layout, LayoutFault, Reading, RowFault,
+    StripFault, TagFault,
 };
 use std::collections::BTreeMap;
 use std::thread;
@@ -65,11 +65,21 @@ fn kind(fault: &Fault) -> Kind {
         Fault::EntryLimit { .. } => (0, "entries above the limit"),
         Fault::DirectoryEnd { .. } => (0, "directory past the end"),
         Fault::TagOrder { .. } => (0, "tags not ascending"),
-        Fault::Strip { fault: StripFault::Missing { .. }, .. } => (0, "no such strip"),
-        Fault::Strip { fault: StripFault::Length { .. }, .. } => (0, "strip's length"),
-        Fault::Strip { fault: StripFault::End { .. }, .. } => (0, "strip past the end"),
+        Fault::Strip { fault, .. } => (0, kind_of_strip(fault)),
         Fault::Tag { tag, fault } => (*tag, kind_of_tag(fault)),
         Fault::Layout { tag, fault } => (*tag, kind_of_layout(fault)),
+    }
+}
+
+fn kind_of_strip(fault: &StripFault) -> &'static str {
+    match fault {
+        StripFault::Missing { .. } => "no such strip",
+        StripFault::Length { .. } => "strip's length",
+        StripFault::End { .. } => "strip past the end",
+        StripFault::Row { fault: RowFault::NoPacket { .. }, .. } => "packed row without an end",
+        StripFault::Row { fault: RowFault::PastRow { .. }, .. } => "packet past the row",
+        StripFault::Row { fault: RowFault::PacketEnd { .. }, .. } => "packet past the strip",
+        StripFault::LeftOver { .. } => "bytes left over",
     }
 }
 
@@ -124,7 +134,7 @@ const KINDS: [(u64, &[&str]); 14] = [
     (338, &ALPHA_KINDS),
 ];
 
-const FILE_KINDS: [&str; 12] = [
+const FILE_KINDS: [&str; 16] = [
     "page above the limit",
     "no header",
     "neither II nor MM",
@@ -137,6 +147,10 @@ const FILE_KINDS: [&str; 12] = [
     "no such strip",
     "strip's length",
     "strip past the end",
+    "packed row without an end",
+    "packet past the row",
+    "packet past the strip",
+    "bytes left over",
 ];
 
 const ALPHA_KINDS: [&str; 7] = [
@@ -155,7 +169,7 @@ fn page_numbers(reading: &Reading) -> Vec<usize> {
     let [palette, separate, white, le] = [palette, separate, white, order == ByteOrder::Little].map(usize::from);
     let mut numbers = vec![w, h, ch, bytes, slots, palette, separate, le, white, alpha, map];
     numbers.extend(seven(plain::check_layout(&reading.layout).expect("a page's layout is good")));
-    numbers.extend([reading.predictor, reading.strips.len()]);
+    numbers.extend([reading.predictor, reading.strips.len(), reading.compression as usize]);
     numbers
 }
 
@@ -180,8 +194,8 @@ fn any_strip(random: &mut Random, strips: usize) -> usize {
 
 fn compare_directory(file: &[u8], page: usize, expected: &Result<Reading, u32>) {
     let numbers = expected.as_ref().map(page_numbers).map_err(|&number| number);
-    // SAFETY: the pointers are those of a slice and of twenty numbers.
-    check(CANARY, 20, numbers, |found| unsafe { hamrisk_directory(file.as_ptr(), file.len(), page, found) });
+    // SAFETY: the pointers are those of a slice and of 21 numbers.
+    check(CANARY, 21, numbers, |found| unsafe { hamrisk_directory(file.as_ptr(), file.len(), page, found) });
 }
 
 /// All strips at once, into as many numbers as they need, more or fewer.
@@ -218,9 +232,10 @@ fn compare_rust(file: &[u8], page: usize, expected: &Result<Reading, u32>) {
     let found = told(read_directory(file, page)).map(|found| {
         let predictor = if found.predict { 2 } else { 1 };
         assert_eq!(Ok(found.derived), plain::check_layout(&found.layout));
-        (found.layout, predictor, found.strips)
+        (found.layout, predictor, found.compression, found.strips)
     });
-    let wanted = expected.clone().map(|reading| (reading.layout, reading.predictor, reading.strips.len()));
+    let of_reading = |reading: Reading| (reading.layout, reading.predictor, reading.compression, reading.strips.len());
+    let wanted = expected.clone().map(of_reading);
     assert_eq!(found, wanted);
     let places = told(placed(file, page)).map(|places| places.iter().map(|p| (p.start, p.len())).collect());
     assert_eq!(places, expected.clone().map(|reading| reading.strips));

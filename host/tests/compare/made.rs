@@ -33,7 +33,11 @@ struct Picture {
     planar: u64,
     predictor: u64,
     rows_per_strip: u64,
+    compression: u64,
 }
+
+/// The compression of strips whose rows are packed.
+const PACKBITS: u64 = 32_773;
 
 impl Picture {
     fn samples(&self) -> u64 {
@@ -41,12 +45,16 @@ impl Picture {
         own + u64::from(self.alpha.is_some())
     }
 
-    /// The bytes of each strip.
-    fn lengths(&self) -> Vec<u64> {
-        let (planes, together) = if self.planar == 2 { (self.samples(), 1) } else { (1, self.samples()) };
-        let row_bytes = (self.w * self.bits * together).div_ceil(8);
+    fn row_bytes(&self) -> u64 {
+        let together = if self.planar == 2 { 1 } else { self.samples() };
+        (self.w * self.bits * together).div_ceil(8)
+    }
+
+    /// The rows of each strip.
+    fn rows(&self) -> Vec<u64> {
+        let planes = if self.planar == 2 { self.samples() } else { 1 };
         let rows_before = (0..self.h).step_by(self.rows_per_strip as usize);
-        let plane: Vec<u64> = rows_before.map(|y| self.rows_per_strip.min(self.h - y) * row_bytes).collect();
+        let plane: Vec<u64> = rows_before.map(|y| self.rows_per_strip.min(self.h - y)).collect();
         plane.repeat(planes as usize)
     }
 }
@@ -76,6 +84,7 @@ fn served(random: &mut Random) -> Picture {
             0 => random.one_of(&[h, h + 1, u64::from(u32::MAX)]),
             _ => 1 + random.below(h as usize) as u64,
         },
+        compression: random.one_of(&[1, 1, PACKBITS]),
     }
 }
 
@@ -198,7 +207,7 @@ impl Made {
         }
         self.put(at + length - 4, 0, 4);
         let tags = fields.iter().map(|field| field.0).collect();
-        self.pages.push(Rc::new(Page { pointer, at, tags, strips: picture.lengths().len() }));
+        self.pages.push(Rc::new(Page { pointer, at, tags, strips: picture.rows().len() }));
         at + length - 4
     }
 
@@ -231,14 +240,13 @@ impl Made {
 
     /// The fields of a page, ascending: those of its picture and some that are not used.
     fn fields(&mut self, random: &mut Random, p: Picture) -> Vec<Field> {
-        let lengths = p.lengths();
-        let places = self.add_strips(random, &lengths);
+        let (places, lengths) = self.add_strips(random, p);
         let samples = p.samples() as usize;
         let mut fields = vec![
             number(random, 256, p.w),
             number(random, 257, p.h),
             (258, 3, vec![p.bits; samples]),
-            (259, 3, vec![1]),
+            (259, 3, vec![p.compression]),
             (262, 3, vec![p.kind]),
             numbers(random, 273, places),
             (277, 3, vec![samples as u64]),
@@ -257,18 +265,57 @@ impl Made {
         fields
     }
 
-    /// Strips somewhere in the file, at times all at one place; the largest are past its end.
-    fn add_strips(&mut self, random: &mut Random, lengths: &[u64]) -> Vec<u64> {
-        let longest = lengths.iter().copied().max().unwrap_or(0);
-        if longest > 1_000 {
-            return lengths.iter().map(|_| random.next() >> 32).collect();
+    /// Strips somewhere in the file, at times all at one place, a shorter one the front of the others; the largest are past its
+    /// end. Answers their places and lengths.
+    fn add_strips(&mut self, random: &mut Random, p: Picture) -> (Vec<u64>, Vec<u64>) {
+        let (rows, row_bytes) = (p.rows(), p.row_bytes());
+        let most = rows.iter().copied().max().unwrap_or(0);
+        if most * row_bytes > 1_000 {
+            return (rows.iter().map(|_| random.next() >> 32).collect(), rows.iter().map(|n| n * row_bytes).collect());
         }
         if random.below(4) == 0 {
-            let at = self.append(random, longest as usize) as u64;
-            return vec![at; lengths.len()];
+            let (at, ends) = self.add_strip(random, p, most);
+            return (vec![at; rows.len()], rows.iter().map(|&n| ends[n as usize]).collect());
         }
-        lengths.iter().map(|&length| self.append(random, length as usize) as u64).collect()
+        let strips = rows.iter().map(|&n| self.add_strip(random, p, n));
+        strips.map(|(at, ends)| (at, ends[ends.len() - 1])).unzip()
     }
+
+    /// A strip of so many rows; answers its place, and the length of its first rows, from none of them to all.
+    fn add_strip(&mut self, random: &mut Random, p: Picture, rows: u64) -> (u64, Vec<u64>) {
+        let (at, row_bytes) = (self.bytes.len(), p.row_bytes() as usize);
+        let mut ends = vec![0];
+        for _ in 0..rows {
+            if p.compression == PACKBITS {
+                self.bytes.extend(packed_row(random, row_bytes));
+            } else {
+                self.append(random, row_bytes);
+            }
+            ends.push((self.bytes.len() - at) as u64);
+        }
+        (at as u64, ends)
+    }
+}
+
+/// A row of so many bytes in packets of any kind, packets of nothing among them.
+fn packed_row(random: &mut Random, mut left: usize) -> Vec<u8> {
+    let mut packed = vec![];
+    while left > 0 {
+        let bytes = 1 + random.below(left.min(128));
+        match random.below(8) {
+            0 => {
+                packed.push(128);
+                continue;
+            }
+            1..=3 if bytes > 1 => packed.extend([(257 - bytes) as u8, random.next() as u8]),
+            _ => {
+                packed.push(bytes as u8 - 1);
+                packed.extend(random.bytes(bytes));
+            }
+        }
+        left -= bytes;
+    }
+    packed
 }
 
 /// The bytes of a value of a type.

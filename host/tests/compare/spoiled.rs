@@ -15,7 +15,7 @@ pub fn spoiled(random: &mut Random, good: &Made) -> Made {
 
 fn spoil(random: &mut Random, file: &mut Made) {
     let page = file.pages[random.below(file.pages.len())].clone();
-    match random.below(20) {
+    match random.below(22) {
         0 => spoil_header(random, file),
         1 => spoil_pointer(random, file, &page),
         2 => spoil_entries(random, file, &page),
@@ -26,6 +26,7 @@ fn spoil(random: &mut Random, file: &mut Made) {
         7 => swap_entries(random, file, &page),
         8 => add_entry(random, file, &page),
         9..=11 => spoil_list(random, file, &page),
+        12 | 13 => spoil_strip(random, file, &page),
         _ => spoil_field(random, file, &page),
     }
 }
@@ -151,21 +152,33 @@ fn spoil_field(random: &mut Random, file: &mut Made, page: &Page) {
         }
         4 => file.put(entry + 8, edge(random, file), 4),
         _ => {
-            let value = random.one_of(&[0, 1, 2, 3, 4, 5, 7, 8, 9, 16, 17, 32, 16_384, 16_385, 65_535]);
+            let value = random.one_of(&[0, 1, 2, 3, 4, 5, 7, 8, 9, 16, 17, 32, 16_384, 16_385, 32_773, 65_535]);
             file.put(entry + 8, value, random.one_of(&[2, 2, 4]));
         }
     }
 }
 
-/// A value of a list: of the bits of a sample, or the place or length of a strip.
-fn spoil_list(random: &mut Random, file: &mut Made, page: &Page) {
-    let tag = random.one_of(&[258, 273, 279]);
-    let Some(n) = page.tags.iter().position(|&t| t == tag) else { return };
+/// Where one value of the list of a tag stands, and its bytes.
+fn value_of(file: &Made, page: &Page, tag: u64, k: usize) -> Option<(usize, usize)> {
+    let n = page.tags.iter().position(|&t| t == tag)?;
     let entry = page.at + 2 + 12 * n;
     let size = if file.get(entry + 2, 2) == 4 { 4 } else { 2 };
     let count = file.get(entry + 4, 4) as usize;
     let at = if count * size <= 4 { entry + 8 } else { file.get(entry + 8, 4) as usize };
-    let place = at + size * random.below(count.clamp(1, 1_000));
+    Some((at + size * (k % count.clamp(1, 1_000)), size))
+}
+
+/// A byte of a strip.
+fn spoil_strip(random: &mut Random, file: &mut Made, page: &Page) {
+    let k = random.below(1_000);
+    let [at, length] = [273, 279].map(|tag| value_of(file, page, tag, k).map_or(0, |(at, size)| file.get(at, size)));
+    spoil_byte(random, file, at as usize, length as usize);
+}
+
+/// A value of a list: of the bits of a sample, or the place or length of a strip.
+fn spoil_list(random: &mut Random, file: &mut Made, page: &Page) {
+    let tag = random.one_of(&[258, 273, 279]);
+    let Some((place, size)) = value_of(file, page, tag, random.below(1_000)) else { return };
     let value = file.get(place, size);
     let wanted = [0, 1, 4, 8, 16, value + 1, value.saturating_sub(1), value * 2, edge(random, file)];
     file.put(place, random.one_of(&wanted), size);

@@ -1,11 +1,15 @@
 //! Files that tifffile, Pillow and libtiff write, and what each reads of its own, held against [`hamrisk::picture`]: a
 //! few that are kept in `tests/files`, and fresh ones of `make.py` where the three are installed. There they also read
-//! files that we write, by `read.py`; and strips of three-byte words, which none of them reads, are numpy's, by `depth.py`.
+//! files that we write, and rows that we pack, by `read.py`; and strips of three-byte words, which none of them reads, are
+//! numpy's, by `depth.py`.
+
+#[path = "../tiff/mod.rs"]
+mod tiff;
 
 use hamrisk::ByteOrder::{Big, Little};
 use hamrisk::{
-    advised_rows_per_strip, check_layout, converted, forwarded, picture, rendered, samples, written_file, Coding,
-    Layout, PacketWriter, Refusal, Strip,
+    advised_rows_per_strip, check_layout, converted, forwarded, pack_row, packed, packed_length, picture, rendered,
+    samples, written_file, Coding, Layout, PacketWriter, Refusal, Strip,
 };
 use std::fs;
 use std::io::Write;
@@ -45,7 +49,7 @@ fn compare(folder: &Path) -> Vec<String> {
 }
 
 /// What every set of files has to show, as a part of a name.
-const KINDS: [&str; 15] = [
+const KINDS: [&str; 22] = [
     "grey",
     "grey16",
     "-mm",
@@ -61,6 +65,13 @@ const KINDS: [&str; 15] = [
     "predicted",
     "predicted16",
     "pages",
+    "tifffile-packed",
+    "pillow-packed",
+    "libtiff-packed",
+    "packed-bilevel",
+    "packed-colour",
+    "packed-grey16",
+    "packed-palette",
 ];
 
 #[track_caller]
@@ -87,13 +98,13 @@ fn python() -> Option<String> {
     std::env::var("HAMRISK_PEERS").ok().or_else(|| installed().then(|| usual.into()))
 }
 
-/// A folder of this test's own, and what a script prints of it; nothing where the peers are not installed.
-fn run_script(script: &str, fill: impl Fn(&Path), look: impl Fn(&Path, &str)) {
+/// A folder of this test's own name, and what a script prints of it; nothing where the peers are not installed.
+fn run_script(name: &str, script: &str, fill: impl Fn(&Path), look: impl Fn(&Path, &str)) {
     let Some(python) = python() else {
         eprintln!("tifffile, Pillow or libtiff's tools are not installed: {script} is not run");
         return;
     };
-    let folder = Path::new(env!("CARGO_TARGET_TMPDIR")).join(format!("peers-{script}-{}", std::process::id()));
+    let folder = Path::new(env!("CARGO_TARGET_TMPDIR")).join(format!("peers-{name}-{}", std::process::id()));
     fs::create_dir_all(&folder).unwrap();
     fill(&folder);
     let path = Path::new(env!("CARGO_MANIFEST_DIR")).join("tests/peers").join(script);
@@ -106,7 +117,7 @@ fn run_script(script: &str, fill: impl Fn(&Path), look: impl Fn(&Path, &str)) {
 
 #[test]
 fn fresh_files() {
-    run_script("make.py", |_| (), |folder, _| assert_kinds(&compare(folder)));
+    run_script("fresh", "make.py", |_| (), |folder, _| assert_kinds(&compare(folder)));
 }
 
 /// Every kind of layout that is written to a file, by name, one of many columns and rows among them.
@@ -162,9 +173,68 @@ fn write_files(folder: &Path) {
 /// 0 white.
 #[test]
 fn files_that_we_write() {
-    run_script("read.py", write_files, |folder, said| {
+    run_script("written", "read.py", write_files, |folder, said| {
         assert_eq!(compare(folder).len(), 55);
         assert_eq!(said, "tifffile 55 pillow 40 libtiff 55\n");
+    });
+}
+
+/// Bytes with runs among those that look random.
+fn runs(n: usize) -> Vec<u8> {
+    let bytes = noise(n);
+    (0..n).map(|k| bytes[if k % 23 < 11 { k - k % 23 } else { k }]).collect()
+}
+
+/// A file of these planes, its rows packed in this way.
+fn packed_file(l: &Layout, planes: &[u8], rows_per_strip: usize, pack: fn(&[u8]) -> Vec<u8>) -> Vec<u8> {
+    let derived = check_layout(l).unwrap();
+    let row_bytes = derived.encoded_width * derived.plane_channels;
+    let plane_strips = |plane: &[u8]| -> Vec<Vec<u8>> {
+        let strips = plane.chunks(rows_per_strip * row_bytes);
+        strips.map(|strip| strip.chunks(row_bytes).flat_map(pack).collect()).collect()
+    };
+    let strips: Vec<Vec<u8>> = planes.chunks(derived.plane_length).flat_map(plane_strips).collect();
+    let strips: Vec<&[u8]> = strips.iter().map(|strip| &strip[..]).collect();
+    let bits = if l.slots == 8 { 1 } else { 8 * l.bytes as u32 };
+    let colours = if l.ch > 2 { 2 } else { u32::from(!l.white) };
+    let page = tiff::Page::grey(l.w as u32, l.h as u32, bits, &strips)
+        .with(258, &vec![bits; l.ch])
+        .with(259, &[32_773])
+        .with(262, &[colours])
+        .with(277, &[l.ch as u32])
+        .with(278, &[rows_per_strip as u32])
+        .with(284, &[1 + u32::from(l.separate)])
+        .with(338, if l.alpha == 0 { &[] } else { &[2] });
+    tiff::file(l.order, &[page])
+}
+
+fn literals(row: &[u8]) -> Vec<u8> {
+    let mut out = vec![0; packed_length(row.len())];
+    pack_row(row, &mut out).unwrap();
+    out
+}
+
+/// Writes a file of each layout, its rows packed by a plan and as literals, in strips of one row, of three and of all.
+fn pack_files(folder: &Path) {
+    for (name, l) in layouts() {
+        let planes = runs(check_layout(&l).unwrap().scratch_length);
+        let expected = rendered(&l, &[], &planes).unwrap();
+        for (how, pack) in [("plan", packed as fn(&[u8]) -> Vec<u8>), ("literals", literals)] {
+            for rows in [1, 3, l.h] {
+                let path = folder.join(format!("{name}-{how}-{rows}"));
+                fs::write(path.with_extension("tif"), packed_file(&l, &planes, rows, pack)).unwrap();
+                fs::write(path.with_extension("0.picture"), &expected).unwrap();
+            }
+        }
+    }
+}
+
+/// All three unpack our rows to what we packed, with the kinds that Pillow lacks left out.
+#[test]
+fn rows_that_we_pack() {
+    run_script("packed", "read.py", pack_files, |folder, said| {
+        assert_eq!(compare(folder).len(), 108);
+        assert_eq!(said, "tifffile 108 pillow 78 libtiff 108\n");
     });
 }
 
@@ -173,6 +243,7 @@ fn files_that_we_write() {
 #[test]
 fn depth_words_of_three_bytes() {
     run_script(
+        "depth",
         "depth.py",
         |_| (),
         |folder, said| {

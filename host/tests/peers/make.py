@@ -10,6 +10,7 @@ by it again.
 """
 
 import ctypes
+import itertools
 import subprocess
 import sys
 import tempfile
@@ -27,6 +28,13 @@ def noise(shape, dtype=numpy.uint8):
     """Samples that look random, the same on each run."""
     top = numpy.iinfo(dtype).max
     return numpy.random.RandomState(numpy.prod(shape) + top % 97).randint(0, top + 1, shape).astype(dtype)
+
+
+def runs(shape, dtype=numpy.uint8):
+    """The same with runs of equal samples, which PackBits repeats."""
+    samples = noise(shape, dtype)
+    samples[:, 2:9] = samples[:, 2:3]
+    return samples
 
 
 def bits():
@@ -69,7 +77,37 @@ def picture(samples):
     return samples.astype(samples.dtype.newbyteorder(">")).tobytes()
 
 
-# tifffile: what it reads are the samples as they are stored, planes apart where they are
+# tifffile: what it reads are the samples as they are stored, planes apart where they are. Debian's unpacks PackBits, but has to
+# be lent what packs a strip: each row, which is the last two axes, on its own
+
+
+def packed(row):
+    """A row of bytes as repeats of runs of three and more, and literals."""
+    result, literal = bytearray(), bytearray()
+
+    def put_literal():
+        for at in range(0, len(literal), 128):
+            part = literal[at : at + 128]
+            result.extend(bytes([len(part) - 1]) + part)
+        literal.clear()
+
+    for byte, run in itertools.groupby(row):
+        count = len(list(run))
+        while count > 2:
+            put_literal()
+            result.extend([257 - min(count, 128), byte])
+            count -= min(count, 128)
+        literal.extend([byte] * count)
+    put_literal()
+    return bytes(result)
+
+
+def packed_strip(samples, axis):
+    assert axis == -2
+    return b"".join(packed(row.tobytes()) for row in samples.reshape(-1, *samples.shape[-2:]))
+
+
+tifffile.tifffile.imagecodecs.packbits_encode = packed_strip
 
 
 def write_tifffile(path, *pages, little=True, predicted=False, **options):
@@ -117,6 +155,7 @@ def by_tifffile():
     wide_colour, alpha = noise((H, W, 3), numpy.uint16), noise((H, W, 4))
     apart = {"photometric": "rgb", "planarconfig": "separate"}
     planes = lambda samples: numpy.moveaxis(samples, -1, 0)
+    packbits = {"compression": "packbits"}
     return {
         "grey": ([grey], {}),
         "grey-mm-strips": ([grey], {"little": False, "rowsperstrip": 2}),
@@ -139,6 +178,20 @@ def by_tifffile():
         ),
         "palette8": ([grey], {"photometric": "palette", "colormap": noise((3, 256), numpy.uint16)}),
         "palette8-mm": ([grey], {"photometric": "palette", "colormap": noise((3, 256), numpy.uint16), "little": False}),
+        "packed-grey-strips": ([runs((H, W))], {**packbits, "rowsperstrip": 2}),
+        "packed-grey-wide": ([runs((H, 400))], {**packbits, "rowsperstrip": 3}),
+        "packed-grey16-mm": ([runs((H, W), numpy.uint16)], {**packbits, "little": False}),
+        "packed-colour": ([runs((H, W, 3))], {**packbits, "photometric": "rgb"}),
+        "packed-colour-apart-strips": ([planes(runs((H, W, 3)))], {**packbits, **apart, "rowsperstrip": 3}),
+        "packed-palette8-mm": (
+            [runs((H, W))],
+            {**packbits, "photometric": "palette", "colormap": noise((3, 256), numpy.uint16), "little": False},
+        ),
+        "packed-predicted16": ([differences(runs((H, W), numpy.uint16))], {**packbits, "predicted": True}),
+        "packed-predicted-mm": (
+            [differences(runs((H, W, 3)))],
+            {**packbits, "photometric": "rgb", "rowsperstrip": 2, "little": False, "predicted": True},
+        ),
         "predicted": ([differences(colour)], {"photometric": "rgb", "rowsperstrip": 2, "predicted": True}),
         "predicted16": ([differences(wide)], {"predicted": True}),
         "predicted16-mm": ([differences(wide_colour)], {"photometric": "rgb", "little": False, "predicted": True}),
@@ -181,6 +234,9 @@ def by_pillow():
     wide = noise((H, W), numpy.uint16)
     big = Image.frombytes("I;16B", (W, H), wide.astype(">u2").tobytes())
     white = {"tiffinfo": {TiffImagePlugin.PHOTOMETRIC_INTERPRETATION: 0}}
+    packbits = {"compression": "packbits"}
+    few = image(runs((H, W)), "P")
+    few.putpalette(noise((768,)).tobytes())
     return {
         "grey": ([grey], {}),
         "grey-white": ([grey], white),
@@ -192,6 +248,12 @@ def by_pillow():
         "alpha": ([image(noise((H, W, 4)))], {}),
         "grey-alpha": ([image(noise((H, W, 2)), "LA")], {}),
         "palette8": ([indexed], {}),
+        "packed-grey-wide": ([image(runs((H, 400)))], packbits),
+        "packed-grey16": ([image(runs((H, W), numpy.uint16))], packbits),
+        "packed-bilevel": ([image(bits())], packbits),
+        "packed-colour-strips": ([image(runs((H, W, 3)))], {**packbits, "strip_size": 2 * 3 * W}),
+        "packed-alpha": ([image(runs((H, W, 4)))], packbits),
+        "packed-palette8": ([few], packbits),
         "pages": ([grey, colour, indexed], {}),
     }
 
@@ -290,6 +352,12 @@ def by_tools(folder):
     tool(*raw, grey, first)
     tool(*raw, "-d", "short", wide, second)
     tool("ppm2tiff", "-c", "none", ppm, third)
+    black, flat = folder / "black.tif", folder / "flat.tif"
+    tool("ppm2tiff", "-c", "none", pbm, black)
+    flat_ppm = folder / "flat.ppm"
+    flat_ppm.write_bytes(b"P6 %d %d 255\n" % (W, H) + runs((H, W, 3)).tobytes())
+    tool("ppm2tiff", "-c", "none", flat_ppm, flat)
+    pack = ["tiffcp", "-c", "packbits"]
     return {
         "grey": [*raw, grey],
         "grey-white-strips": [*raw, "-p", "miniswhite", "-r", 2, grey],
@@ -300,25 +368,32 @@ def by_tools(folder):
         "colour-apart-mm": [*copy, "-B", "-p", "separate", "-r", 2, third],
         "pages": [*copy, "-r", 4, first, second, third],
         "pages-mm": [*copy, "-B", first, second, third],
+        "packed-bilevel-strips": [*pack, "-r", 3, black],
+        "packed-colour-strips-mm": [*pack, "-B", "-r", 2, flat],
+        "packed-colour-apart": [*pack, "-p", "separate", "-r", 4, flat],
+        "packed-grey16": [*pack, "-r", 3, second],
+        "packed-pages": [*pack, first, second, flat, black],
     }
 
 
 def by_library():
     """Names; the mode that a file is opened with, rows of bytes, fields, and the colours of a palette."""
     fields = lambda **other: {256: W, 257: H, 259: 1, 277: 1, 284: 1, **{int(tag[1:]): v for tag, v in other.items()}}
-    packed = numpy.packbits(bits(), axis=1)
+    in_bytes = numpy.packbits(bits(), axis=1)
     nibbles = noise((H, W + 1)) >> 4
     pairs = nibbles[:, 0::2] << 4 | nibbles[:, 1::2]
     colours = lambda count: noise((3, count), numpy.uint16)
     extra = lambda kind: (1, ctypes.byref(ctypes.c_uint16(kind)))
     rows = lambda samples: [row.tobytes() for row in samples]
     return {
-        "palette1": ("wl", rows(packed), fields(t258=1, t262=3, t278=H), colours(2)),
-        "palette1-mm": ("wb", rows(packed), fields(t258=1, t262=3, t278=2), colours(2)),
+        "palette1": ("wl", rows(in_bytes), fields(t258=1, t262=3, t278=H), colours(2)),
+        "palette1-mm": ("wb", rows(in_bytes), fields(t258=1, t262=3, t278=2), colours(2)),
         "palette4": ("wl", rows(pairs), fields(t258=4, t262=3, t278=3), colours(16)),
         "palette4-mm": ("wb", rows(pairs), fields(t258=4, t262=3, t278=H), colours(16)),
         "palette8-mm": ("wb", rows(noise((H, W))), fields(t258=8, t262=3, t278=H), colours(256)),
-        "bilevel-mm": ("wb", rows(packed), fields(t258=1, t262=1, t278=4), None),
+        "bilevel-mm": ("wb", rows(in_bytes), fields(t258=1, t262=1, t278=4), None),
+        "packed-palette1": ("wl", rows(in_bytes), fields(t258=1, t259=32773, t262=3, t278=2), colours(2)),
+        "packed-palette4-mm": ("wb", rows(pairs), fields(t258=4, t259=32773, t262=3, t278=3), colours(16)),
         "alpha-multiplied-mm": (
             "wb",
             rows(multiplied()),

@@ -2,7 +2,7 @@
 
 use crate::args::{Args, Opt, Syntax};
 use crate::failure::Failure;
-use crate::{demo, layouts, pages, strips};
+use crate::{demo, layouts, pages, rows, strips};
 use hamrisk::limits::{self, Served};
 
 pub struct Command {
@@ -98,6 +98,10 @@ const MARKS: &[Opt] = &[opt("pgm", "", "write a PGM to look at, a pixel for each
 
 const SWAP: &[Opt] = &[number("width", "bytes of a group, {}; required", limits::SWAP_WIDTHS)];
 
+const ROW: &[Opt] = &[number("row-bytes", "bytes of a row, {}; required", rows::ROW_BYTES)];
+
+const LITERAL: &[Opt] = &[opt("literal", "", "all bytes as literals: one byte more for each 128 that a row begins")];
+
 const DEMO: &[Opt] = &[opt("to", "DIR", "where the pictures go; hamrisk-demo in the temporary folder if not given")];
 
 pub const COMMANDS: &[Command] = &[
@@ -105,9 +109,9 @@ pub const COMMANDS: &[Command] = &[
         syntax: Syntax { name: "info", files: &["FILE"], groups: &[PAGE, STRIPS] },
         about: "say what a page of the TIFF file FILE is, a line for each fact",
         notes:
-            "Read are strips that are not compressed: grey or red, green and blue, of 8 or 16 bits, with 8 bits one\n\
-                alpha beside them; bilevel; palettes of 1, 4 or 8 bits; planes together or apart, predicted or not. A\n\
-                page with a strip that is not sound is refused, but what its directory says is printed. Tags that\n\
+            "Read are strips, not compressed or by PackBits: grey or red, green and blue, of 8 or 16 bits, with 8 bits\n\
+                one alpha beside them; bilevel; palettes of 1, 4 or 8 bits; planes together or apart, predicted or not.\n\
+                A page with a strip that is not sound is refused, but what its directory says is printed. Tags that\n\
                 are not looked at, but give samples or rows another meaning, are named at the end.\n",
         run: pages::info,
     },
@@ -119,7 +123,7 @@ pub const COMMANDS: &[Command] = &[
     },
     Command {
         syntax: Syntax { name: "samples", files: &["FILE", "OUT"], groups: &[PAGE, TO] },
-        about: "write the samples of a page of the TIFF file FILE, prediction undone",
+        about: "write the samples of a page of the TIFF file FILE, compression and prediction undone",
         notes: "Planes come one after the other, each row by row. Samples of 1 or 4 bits stay packed in bytes,\n\
                 and each row begins with a new byte.\n",
         run: pages::samples,
@@ -163,6 +167,20 @@ pub const COMMANDS: &[Command] = &[
         about: "write each byte of IN with its bits in the other order",
         notes: "",
         run: strips::reverse,
+    },
+    Command {
+        syntax: Syntax { name: "pack", files: &["IN", "OUT"], groups: &[ROW, LITERAL] },
+        about: "write the rows IN packed by PackBits, each on its own",
+        notes: "IN has whole rows. Three equal bytes and more become repeats, the bytes between them literals. The\n\
+                strips of a TIFF file of compression 32773 are such rows.\n",
+        run: rows::pack,
+    },
+    Command {
+        syntax: Syntax { name: "unpack", files: &["IN", "OUT"], groups: &[ROW] },
+        about: "write the rows that IN has packed by PackBits, each on its own",
+        notes: "Rows follow each other to the end of IN. A refusal names the row, the first being 0, and the bytes of\n\
+                IN at which the row and its packet begin.\n",
+        run: rows::unpack,
     },
     Command {
         syntax: Syntax { name: "render", files: &["IN", "OUT"], groups: &[LAYOUT, PALETTE, PNM] },

@@ -1,7 +1,7 @@
 //! What is known of a page of a TIFF file, a line for each fact.
 
 use hamrisk::limits::MOST_PAGES;
-use hamrisk::{explain, explain_strip, skipped, ByteOrder, Fault, Layout, Page, Refusal};
+use hamrisk::{explain, explain_row, explain_strip, skipped, ByteOrder, Compression, Fault, Layout, Page, Refusal};
 use std::ops::Range;
 
 /// What became of a strip: its place, or why it is refused.
@@ -21,10 +21,11 @@ pub fn of_page(file: &[u8], number: usize, page: &Page, strips: &[Placed]) -> St
         ("colours", colours(page)),
         ("planes", if l.separate { "apart" } else { "together" }.into()),
         ("alpha", alpha(l.alpha).into()),
+        ("compression", compression(page.compression).into()),
         ("predictor", if page.predict { "2 (each sample less the one a pixel before it)" } else { "1 (none)" }.into()),
         ("strips", sound(strips)),
     ];
-    facts.extend(rows(page, strips).map(|rows| ("rows of a strip", rows)));
+    facts.extend(rows(file, page, strips).map(|rows| ("rows of a strip", rows)));
     facts.push(("row bytes", page.geometry().row_bytes.to_string()));
     facts.push(("bytes of the samples", page.derived.scratch_length.to_string()));
     facts.push(("bytes of the picture", page.derived.output_length.to_string()));
@@ -84,6 +85,13 @@ fn alpha(kind: usize) -> &'static str {
     }
 }
 
+fn compression(kind: Compression) -> &'static str {
+    match kind {
+        Compression::None => "1 (none)",
+        Compression::PackBits => "32773 (PackBits, each row on its own)",
+    }
+}
+
 fn sound(strips: &[Placed]) -> String {
     match (strips.len(), strips.iter().flatten().count()) {
         (all, sound) if sound == all => all.to_string(),
@@ -93,11 +101,22 @@ fn sound(strips: &[Placed]) -> String {
 }
 
 /// The rows of each strip, where all are sound.
-fn rows(page: &Page, strips: &[Placed]) -> Option<String> {
-    let row = page.geometry().row_bytes;
-    let lengths: Vec<usize> = strips.iter().map(|place| place.as_ref().ok().map(Range::len)).collect::<Option<_>>()?;
-    let (first, last) = (lengths.first()? / row, lengths.last()? / row);
+fn rows(file: &[u8], page: &Page, strips: &[Placed]) -> Option<String> {
+    let places: Vec<&Range<usize>> = strips.iter().map(|place| place.as_ref().ok()).collect::<Option<_>>()?;
+    let [first, last] = [places.first()?, places.last()?].map(|place| rows_of(file, page, place));
     Some(if first == last { first.to_string() } else { format!("{first}, the last {last}") })
+}
+
+/// The rows of a sound strip.
+fn rows_of(file: &[u8], page: &Page, place: &Range<usize>) -> usize {
+    let row_bytes = page.geometry().row_bytes;
+    match page.compression {
+        Compression::None => place.len() / row_bytes,
+        Compression::PackBits => {
+            let next = |at: &usize| explain_row(&file[..place.end], *at, row_bytes).ok();
+            std::iter::successors(next(&place.start), next).count()
+        }
+    }
 }
 
 /// A line for each strip: its place and length, or what is wrong with it.

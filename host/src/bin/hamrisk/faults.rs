@@ -3,7 +3,7 @@
 use crate::failure::Fault;
 use hamrisk::limits::{self, Served, MOST_PICTURE_BYTES, MOST_SIDE, MOST_STRIP_BYTES};
 use hamrisk::Refusal::{self, Invalid, Limit, Truncated, Unsupported};
-use hamrisk::{check_layout, ByteOrder, Layout, Strip};
+use hamrisk::{check_layout, explain_row, ByteOrder, Layout, Strip};
 
 /// A fault, if it is one.
 fn fault(holds: bool, refusal: Refusal, text: impl Into<String>) -> Option<Fault> {
@@ -58,6 +58,18 @@ pub fn of_swap(length: usize, width: usize) -> Option<Fault> {
         unserved("width", width, limits::SWAP_WIDTHS),
         fault(ragged(length, width), Invalid, format!("length {length} is no multiple of width {width}")),
     ])
+}
+
+/// Of bytes that are to be rows.
+pub fn of_rows(length: usize, row_bytes: usize) -> Option<Fault> {
+    let left = length % row_bytes;
+    fault(left > 0, Invalid, format!("length {length} is no multiple of row bytes {row_bytes}: {left} left over"))
+}
+
+/// Of a packed row that begins at byte `at`.
+pub fn of_packed_row(packed: &[u8], at: usize, row: usize, row_bytes: usize) -> Option<Fault> {
+    let fault = explain_row(packed, at, row_bytes).err()?;
+    Some((fault.refusal(), format!("row {row}, from byte {at}: {fault}")))
 }
 
 fn of_layout(l: &Layout) -> Option<Fault> {
@@ -184,7 +196,7 @@ fn grey_byte(l: &Layout, picture: &[u8]) -> Option<Fault> {
 #[cfg(test)]
 mod tests {
     use super::*;
-    use hamrisk::{check_strip, rendered, swap_components, written, written_file, Coding, Packets};
+    use hamrisk::{check_strip, rendered, swap_components, unpacked, written, written_file, Coding, Packets};
 
     /// The fault that is named is one that leads to the library's refusal; without a refusal there is none.
     #[track_caller]
@@ -228,6 +240,17 @@ mod tests {
     fn faults_of_swaps_agree_with_the_library() {
         for (length, width) in (0..30).flat_map(|length| (0..11).map(move |width| (length, width))) {
             assert_agrees(swap_components(&vec![0; length], width, &mut vec![0; length]), of_swap(length, width));
+        }
+    }
+
+    #[test]
+    fn faults_of_packed_rows_agree_with_the_library() {
+        for (first, length) in (0..=255).flat_map(|first| (0..=4).map(move |length| (first, length))) {
+            let packed = [0, 7, first, 254, 9, 0];
+            for row_bytes in [0, 1, 2, 3, 4, 130] {
+                let packed = &packed[..2 + length];
+                assert_agrees(unpacked(&packed[2..], row_bytes), of_packed_row(packed, 2, 1, row_bytes));
+            }
         }
     }
 

@@ -5,7 +5,7 @@
 //! - `main`
 //! - `help`: the texts
 //! - `commands`: the table of what there is
-//! - `pages`, `strips`, `layouts`, `demo`: what each command does
+//! - `pages`, `strips`, `rows`, `layouts`, `demo`: what each command does
 //! - `args`, `facts`, `faults`, `files`, `pictures`: what they do it with
 //! - `failure`, `progress`
 
@@ -21,6 +21,7 @@ mod layouts;
 mod pages;
 mod pictures;
 mod progress;
+mod rows;
 mod strips;
 
 use args::Args;

@@ -29,9 +29,9 @@ impl Asked {
 
     /// What the second reading of the file has of the page's directory, where that is in order.
     fn directory(&self) -> Option<Page> {
-        let (layout, predictor, strips) = explain_layout(&self.file, self.page).ok()?;
+        let (layout, predictor, compression, strips) = explain_layout(&self.file, self.page).ok()?;
         let derived = check_layout(&layout).ok()?;
-        Some(Page { layout, derived, predict: predictor == 2, strips })
+        Some(Page { layout, derived, predict: predictor == 2, strips, compression })
     }
 
     /// The strips of a page that is found.
