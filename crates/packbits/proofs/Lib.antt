@@ -1,4 +1,5 @@
 pub mod Onward
+pub mod Placing
 pub mod Packets
 pub mod Planning
 pub mod Putting

@@ -3,14 +3,14 @@ use Prim.Native.Nat.{ℕ, suc, _+_, _-_, _≤_, _<_}
 use mathlib.Core.Path.{_≡_, refl, sym, ap, _∙_}
 use mathlib.Core.Bool.{Bool, true, _&&_}
 use mathlib.Core.List.{List, [], _∷_, _++_, append-assoc, append-nil}
-use native.Mathlib.Nat.{zero-add, add-zero}
+use native.Mathlib.Nat.{zero-add, add-zero, sub-zero}
 use native.Mathlib.Numerals.{add-one}
 use native.Mathlib.Omega.{arith}
 use native.Mathlib.Decide.{ℕ-discrete}
 use borrow.Author.Tests.{le-ltb, eq-eqb, ne-eqb}
 use lib.ListN.{length, getD, take, drop, set, length-set, take-append-drop, length-append, length-drop, drop-of-length-le}
 use lib.Dec.{eqb}
-use lib.Seq.{take-at, drop-at, drop-drop, length-take-le, take-suc-set, drop-set-lt, set-split, take-append-add, take-append-le}
+use lib.Seq.{take-at, drop-at, drop-drop, length-take-le, take-all, take-suc-set, drop-set-lt, set-split, take-append-add, take-append-le}
 use Rattle.answer.specs.declared.Done.{Done}
 use Rattle.answer.specs.Outcome.{Fault, Sound, none, next, First, Outcome, done, unless, after, Promise, Step}
 use Rattle.answer.proofs.Promised.{sound-then, sound-more, sound-skip, finishing, finished, sound-done}
@@ -78,40 +78,36 @@ put-length to bytes old h =
 pub put-all : (bytes old : List ℕ) → length bytes ≡ length old → bytes ≡ putAt 0 bytes old
 put-all bytes old e = sym (append-nil bytes) ∙ ap (λ (l : List ℕ). bytes ++ l) (sym (drop-of-length-le old {i = 0 + length bytes} (omega arith)))
 
--- a buffer into which a front of the whole was put, so that the rest goes in from `to` on
+-- a buffer into which a front of the whole was placed, so that the rest goes in from `to` on
 pub record Upto (whole rest old : List ℕ) (to : ℕ) (out : List ℕ) : Type 0 where
   pub within : to ≤ length old
   pub same : length out ≡ length old
   pub so-far : take to out ++ rest ≡ whole
-  pub untouched : drop to out ≡ drop to old
 
 pub upto-none : (whole old : List ℕ) → Upto whole whole old 0 old
-upto-none whole old = record { within = omega arith; same = refl; so-far = refl; untouched = refl }
+upto-none whole old = record { within = omega arith; same = refl; so-far = refl }
 
-module _ {whole rest old out : List ℕ} {to : ℕ} where
-  pub upto-on : (new : List ℕ) {after : List ℕ} → Upto whole (new ++ rest) old to out → to + length new ≤ length old → after ≡ putAt to new out → Upto whole rest old (to + length new) after
-  upto-on new {after} u room e =
-      let front : length (take to out) ≡ to = length-take-le to out (omega (arith, u .within, u .same)) in
-      let long : length (take to out ++ new) ≡ to + length new = length-append (take to out) new ∙ ap (λ (n : ℕ). n + length new) front in
-      let parts : after ≡ (take to out ++ new) ++ drop (to + length new) out = e ∙ sym (append-assoc (take to out) new (drop (to + length new) out)) in
-      record {
-        within = room;
-        same = ap length parts ∙ length-append (take to out ++ new) (drop (to + length new) out) ∙ ap (λ (n : ℕ). n + length (drop (to + length new) out)) long ∙ ap (λ (n : ℕ). to + length new + n) (length-drop (to + length new) out) ∙ omega (arith, u .same);
-        so-far = ap (λ (l : List ℕ). l ++ rest) (ap (take (to + length new)) parts ∙ take-at (take to out ++ new) (drop (to + length new) out) (to + length new) long) ∙ append-assoc (take to out) new rest ∙ u .so-far;
-        untouched = ap (drop (to + length new)) parts ∙ drop-at (take to out ++ new) (drop (to + length new) out) (to + length new) long ∙ sym (drop-drop (length new) to out) ∙ ap (drop (length new)) (u .untouched) ∙ drop-drop (length new) to old;
-      }
+pub upto-on : {whole rest old out : List ℕ} {to : ℕ} (bytes : List ℕ) {n : ℕ} {new : List ℕ} → Upto whole (bytes ++ rest) old to out → length bytes ≡ n → to + n ≤ length old → Placed to bytes out new → Upto whole rest old (to + n) new
+upto-on {whole} {rest} {old} {out} {to} bytes u long room put =
+    record {
+      within = room;
+      same = put .same ∙ u .same;
+      so-far = ap (λ (l : List ℕ). l ++ rest) (rw long at (put .front)) ∙ append-assoc (take to out) bytes rest ∙ u .so-far;
+    }
 
-pub upto-end : {whole old out : List ℕ} {to : ℕ} → Upto whole [] old to out → out ≡ putAt 0 whole old
-upto-end {whole} {old} {out} {to} u =
-    let all : take to out ≡ whole = sym (append-nil (take to out)) ∙ u .so-far in
-    let long : length whole ≡ to = ap length (sym all) ∙ length-take-le to out (omega (arith, u .within, u .same)) in
-    sym (take-append-drop to out) ∙ ap (λ (l : List ℕ). l ++ drop to out) all ∙ ap (λ (l : List ℕ). whole ++ l) (u .untouched ∙ ap (λ (n : ℕ). drop n old) (sym (zero-add (length whole) ∙ long)))
+pub upto-end : {whole old out : List ℕ} {to : ℕ} → Upto whole [] old to out → length old ≤ to → out ≡ whole
+upto-end {whole} {old} {out} {to} u end =
+    sym (append-nil out) ∙ ap (λ (l : List ℕ). l ++ []) (sym (take-all to out (omega (arith, u .same)))) ∙ u .so-far
 
 -- a part of a buffer that was filled, as bytes put there
 pub put-part : (row : List ℕ) (from to : ℕ) {new bytes : List ℕ} → new ≡ bytes → from ≤ to → length bytes ≡ to - from → take from row ++ (new ++ drop (to - from) (drop from row)) ≡ putAt from bytes row
 put-part row from to {new} {bytes} e h long =
     ap (λ (l : List ℕ). take from row ++ (l ++ drop (to - from) (drop from row))) e
     ∙ ap (λ (l : List ℕ). take from row ++ (bytes ++ l)) (drop-drop (to - from) from row ∙ ap (λ (n : ℕ). drop (from + n) row) (sym long))
+
+-- the front of a buffer as a part of it
+pub front-length : (n : ℕ) (out : List ℕ) → n ≤ length out → length (take (n - 0) (drop 0 out)) ≡ n
+front-length n out h = rw (sub-zero n) (length-take-le n out h)
 
 -- a copy that fills all of its buffer
 pub copied : (source old new : List ℕ) (a : Done) → Committed source old a new → length source ≡ length old → new ≡ source
@@ -120,21 +116,6 @@ copied source old new a p long =
     ∙ ap (λ (l : List ℕ). l ++ drop (length source) old) (table-self source)
     ∙ ap (λ (l : List ℕ). source ++ l) (drop-of-length-le old {i = length source} (omega arith))
     ∙ append-nil source
-
--- a byte, and bytes behind it
-pub put-after : (out : List ℕ) (to v : ℕ) (bytes : List ℕ) → to < length out → putAt (to + 1) bytes (set out to v) ≡ putAt to (v ∷ bytes) out
-put-after out to v bytes h =
-    let front : take (to + 1) (set out to v) ≡ take to out ++ (v ∷ []) = ap (λ (n : ℕ). take n (set out to v)) (add-one to) ∙ take-suc-set out to v h in
-    let span : to + 1 + length bytes ≡ to + suc (length bytes) = omega arith in
-    let back : drop (to + 1 + length bytes) (set out to v) ≡ drop (to + suc (length bytes)) out = drop-set-lt (to + 1 + length bytes) out to v (omega arith) ∙ ap (λ (n : ℕ). drop n out) span in
-    ap (λ (l : List ℕ). l ++ (bytes ++ drop (to + 1 + length bytes) (set out to v))) front
-    ∙ append-assoc (take to out) (v ∷ []) (bytes ++ drop (to + 1 + length bytes) (set out to v))
-    ∙ ap (λ (l : List ℕ). take to out ++ (v ∷ (bytes ++ l))) back
-
-pub put-two : (out : List ℕ) (to a b : ℕ) → to + 2 ≤ length out → set (set out to a) (to + 1) b ≡ putAt to (a ∷ b ∷ []) out
-put-two out to a b h =
-    let one : set (set out to a) (to + 1) b ≡ putAt (to + 1) (b ∷ []) (set out to a) = set-split (set out to a) (to + 1) b (rw (length-set out to a) (omega arith)) ∙ ap (λ (n : ℕ). take (to + 1) (set out to a) ++ (b ∷ drop n (set out to a))) (sym (add-one (to + 1))) in
-    one ∙ put-after out to a (b ∷ []) (omega arith)
 
 -- n bytes placed, as the front of what was put there; and none
 pub placed-by : (to n : ℕ) (source : List ℕ) {bytes row new : List ℕ} → take n source ≡ bytes → n ≤ length source → to + length source ≤ length row → new ≡ putAt to source row → Placed to bytes row new
@@ -149,3 +130,16 @@ placed-by to n source {bytes} {row} {new} is h room e =
 
 pub placed-none : (to : ℕ) (row : List ℕ) → Placed to [] row row
 placed-none to row = record { same = refl; front = ap (λ (n : ℕ). take n row) (add-zero to) ∙ sym (append-nil (take to row)) }
+
+-- a byte, and what is placed behind it
+pub placed-after : (out : List ℕ) (to v : ℕ) {bytes new : List ℕ} → to < length out → Placed (to + 1) bytes (set out to v) new → Placed to (v ∷ bytes) out new
+placed-after out to v {bytes} {new} h put =
+    let front : take (to + 1) (set out to v) ≡ take to out ++ (v ∷ []) = ap (λ (n : ℕ). take n (set out to v)) (add-one to) ∙ take-suc-set out to v h in
+    let span : to + suc (length bytes) ≡ to + 1 + length bytes = omega arith in
+    record {
+      same = put .same ∙ length-set out to v;
+      front = ap (λ (n : ℕ). take n new) span ∙ put .front ∙ ap (λ (l : List ℕ). l ++ bytes) front ∙ append-assoc (take to out) (v ∷ []) bytes;
+    }
+
+pub placed-two : (out : List ℕ) (to a b : ℕ) → to + 2 ≤ length out → Placed to (a ∷ b ∷ []) out (set (set out to a) (to + 1) b)
+placed-two out to a b h = placed-after out to a (omega arith) (placed-after (set out to a) (to + 1) b (rw (length-set out to a) (omega arith)) (placed-none (to + 1 + 1) (set (set out to a) (to + 1) b)))

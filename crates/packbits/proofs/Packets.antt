@@ -2,7 +2,7 @@
 use Prim.Native.Nat.{ℕ, zero, suc, _+_, _-_, _≤_, _<_}
 use mathlib.Core.Path.{_≡_, refl, sym, ap, _∙_}
 use mathlib.Core.Bool.{Bool, true, false, not, _&&_}
-use mathlib.Core.List.{List, [], _∷_, _++_, append-assoc, append-nil}
+use mathlib.Core.List.{List, [], _∷_, _++_}
 use native.Mathlib.Omega.{arith}
 use native.Mathlib.Nat.{sub-zero, add-zero, zero-add, add-assoc}
 use borrow.Author.Tests.{ltb-true, ltb-false, leb-true, eqb-true, eqb-false, eq-eqb, ne-eqb, lt-ltb, le-ltb}
@@ -23,7 +23,7 @@ use Rattle.packbits.specs.declared.Unpacked.{Unpacked}
 use Rattle.packbits.specs.declared.Unpacked.the-variants as Unpacked-is
 use Rattle.packbits.specs.Rows.{fills, takes, Packet, header, behind, packetsUpto, packets, packetFaults, packetBytes, faultsOf, bytesOf, takenBy, rowFaults, rowBytes, used, rowsFaults, usedOutcome, RowMeasured}
 use Rattle.packbits.specs.Parts.{begun, wholeLiteral, doesNothing, putAt, bytesAt, Placed, CopyFits}
-use Rattle.packbits.proofs.Onward.{and-left, and-right, Past, past-none, past-on, past-first, past-sound, past-step, used-up, put-part, copied, placed-by}
+use Rattle.packbits.proofs.Onward.{and-left, and-right, Past, past-none, past-on, past-first, past-sound, past-step, used-up, Upto, upto-none, upto-on, upto-end}
 
 -- a packet takes a byte or more
 pub takes-some : (h : ℕ) → 0 < takes h
@@ -318,45 +318,15 @@ module _ (packed : List ℕ) (at left : ℕ) where
   unfolding packetBytes
   repeated-bytes l kind = rw (header-at packed at left, le-ltb h 128 l, ← kind .fills-so) (ap (λ (b : ℕ). table (fills h) (λ k. b)) (getD-drop at packed 1 0))
 
--- a part of a row: copied, or filled with a byte
-pub part-copied : (packed row : List ℕ) (begin n from : ℕ) → CopyFits packed begin n row from → (new : List ℕ) (a : Done) → Committed (take (begin + n - begin) (drop begin packed)) (take (from + n - from) (drop from row)) a new → take from row ++ (new ++ drop (from + n - from) (drop from row)) ≡ putAt from (bytesAt packed begin n) row
-part-copied packed row begin n from room new a copy =
-    let read : begin + n - begin ≡ n = omega arith in
-    let span : from + n - from ≡ n = omega arith in
-    let source : length (bytesAt packed begin n) ≡ n = length-take-le n (drop begin packed) (rw (length-drop begin packed) (omega (arith, room .0))) in
-    let old : length (take n (drop from row)) ≡ n = length-take-le n (drop from row) (rw (length-drop from row) (omega (arith, room .1))) in
-    let same : new ≡ bytesAt packed begin n = copied _ _ new a copy (rw (read, span) (source ∙ sym old)) ∙ ap (λ (k : ℕ). take k (drop begin packed)) read in
-    put-part row from (from + n) same (omega arith) (source ∙ sym span)
-
-pub part-filled-with : (row : List ℕ) (n from b : ℕ) → from + n ≤ length row → {new : List ℕ} → new ≡ table (length (take (from + n - from) (drop from row))) (λ k. b) → take from row ++ (new ++ drop (from + n - from) (drop from row)) ≡ putAt from (table n (λ k. b)) row
-part-filled-with row n from b room e =
-    let span : from + n - from ≡ n = omega arith in
-    let old : length (take (from + n - from) (drop from row)) ≡ n = ap (λ (k : ℕ). length (take k (drop from row))) span ∙ length-take-le n (drop from row) (rw (length-drop from row) (omega arith)) in
-    put-part row from (from + n) (e ∙ ap (λ (k : ℕ). table k (λ j. b)) old) (omega arith) (length-table n (λ k. b) ∙ sym span)
-
--- what was put there places the first n of it
-pub repeat-placed : (row : List ℕ) (n m from b : ℕ) → n ≤ m → from + m ≤ length row → {new : List ℕ} → new ≡ putAt from (table m (λ k. b)) row → Placed from (table n (λ k. b)) row new
-repeat-placed row n m from b h room e =
-    let long = length-table m (λ k. b) in
-    let front : take n (table m (λ k. b)) ≡ table n (λ k. b) = sym (own-front n (table m (λ k. b)) (omega arith)) ∙ table-same n _ _ (λ k l. table-at m (λ j. b) k (omega arith)) in
-    placed-by from n (table m (λ k. b)) front (omega arith) (omega arith) e
-
-pub literal-placed : (packed row : List ℕ) (begin n m from : ℕ) → n ≤ m → CopyFits packed begin m row from → {new : List ℕ} → new ≡ putAt from (bytesAt packed begin m) row → Placed from (bytesAt packed begin n) row new
-literal-placed packed row begin n m from h room e =
-    let long : length (bytesAt packed begin m) ≡ m = length-take-le m (drop begin packed) (rw (length-drop begin packed) (omega (arith, room .0))) in
-    placed-by from n (bytesAt packed begin m) (take-take n m (drop begin packed) h) (omega arith) (omega (arith, room .1)) e
-
 -- a row that packets have filled up to a place
 pub record Filling (packed row₀ : List ℕ) (at from : ℕ) (row : List ℕ) : Type 0 where
   pub inside : at ≤ length packed
-  pub within : from ≤ length row₀
-  pub same : length row ≡ length row₀
   pub sound : Sound (faultsOf (packets (begun packed at (length row₀ - from))))
-  pub so-far : take from row ++ bytesOf (packets (begun packed at (length row₀ - from))) ≡ rowBytes packed (length row₀)
+  pub upto : Upto (rowBytes packed (length row₀)) (bytesOf (packets (begun packed at (length row₀ - from)))) row₀ from row
 
 pub filling-none : (packed row : List ℕ) → Sound (rowFaults packed (length row)) → Filling packed row 0 0 row
 filling-none packed row s =
-    record { inside = omega arith; within = omega arith; same = refl; sound = rw (sub-zero (length row)) s; so-far = rw (sub-zero (length row)) }
+    record { inside = omega arith; sound = rw (sub-zero (length row)) s; upto = rw (sub-zero (length row)) (upto-none (rowBytes packed (length row)) row) }
 
 module _ {packed row₀ row : List ℕ} {at from : ℕ} (fill : Filling packed row₀ at from row) where
   module _ (more : from < length row) where
@@ -364,7 +334,7 @@ module _ {packed row₀ row : List ℕ} {at from : ℕ} (fill : Filling packed r
     left = length row₀ - from
 
     some-left : 0 < left
-    some-left = omega (arith, fill .same)
+    some-left = omega (arith, fill .upto .same)
 
     packet-sound : Sound (packetFaults (begun packed at left))
     packet-sound = sound-front _ _ (rw (begins (begun packed at left) some-left) at (fill .sound))
@@ -376,7 +346,7 @@ module _ {packed row₀ row : List ℕ} {at from : ℕ} (fill : Filling packed r
     pub ends : {f t : ℕ} → Header (getD packed at 0) f t → (at + t ≤ length packed) × (from + f ≤ length row)
     ends kind =
         let fit = packet-fits in
-        (rw (← kind .takes-so) (fit .whole), omega (arith, fit .passes, kind .fills-so, fill .same))
+        (rw (← kind .takes-so) (fit .whole), omega (arith, fit .passes, kind .fills-so, fill .upto .same))
 
     pub filling-on : {new bytes : List ℕ} {f t : ℕ} → Header (getD packed at 0) f t → packetBytes (begun packed at left) ≡ bytes → Placed from bytes row new → Filling packed row₀ (at + t) (from + f) new
     filling-on {new} {bytes} {f} {t} kind is put =
@@ -387,13 +357,11 @@ module _ {packed row₀ row : List ℕ} {at from : ℕ} (fill : Filling packed r
         let on : bytesOf (packets p) ≡ bytes ++ bytesOf (packets (begun packed (at + t) (left - f))) = ap bytesOf next ∙ ap (λ (l : List ℕ). l ++ bytesOf (packets (begun packed (at + t) (left - f)))) is in
         record {
           inside = ends kind .0;
-          within = omega (arith, ends kind .1, fill .same);
-          same = put .same ∙ fill .same;
           sound = rw (← rest) (sound-back (packetFaults p) _ (rw next at (fill .sound)));
-          so-far = rw (← rest) (ap (λ (l : List ℕ). l ++ bytesOf (packets (begun packed (at + t) (left - f)))) (rw long at (put .front)) ∙ append-assoc (take from row) bytes _ ∙ sym (ap (λ (l : List ℕ). take from row ++ l) on) ∙ fill .so-far);
+          upto = rw (← rest) (upto-on bytes (rw on at (fill .upto)) long (omega (arith, ends kind .1, fill .upto .same)) put);
         }
 
   pub filling-end : length row ≤ from → row ≡ rowBytes packed (length row₀)
   filling-end end =
-      let none-left : length row₀ - from ≡ 0 = omega (arith, fill .same) in
-      sym (append-nil row) ∙ ap (λ (l : List ℕ). l ++ []) (sym (take-all from row end)) ∙ rw none-left at (fill .so-far)
+      let none-left : length row₀ - from ≡ 0 = omega (arith, fill .upto .same) in
+      upto-end (rw none-left at (fill .upto)) (omega (arith, fill .upto .same))

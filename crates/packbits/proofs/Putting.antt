@@ -11,13 +11,11 @@ use borrow.Author.Tests.{eq-eqb, ne-eqb, lt-ltb, le-ltb, le-leb}
 use lib.ListN.{length, getD, take, drop, set, length-set, length-drop, length-append}
 use lib.Seq.{getD-drop, drop-drop, length-take-le}
 use lib.Dec.{eqb, ltb, leb}
-use Rattle.answer.specs.declared.Done.{Done}
 use Rattle.answer.specs.Outcome.{Sound, First, here, later, next, none, outputTooSmall, pick}
 use Rattle.laws.proofs.Says.{held}
-use Rattle.transport.specs.Moved.{Committed}
 use Rattle.packbits.specs.Plans.{Planned, planOf, kept, keeps, literalRule, packetOf, planBytes, planFaults, packFaults, literals, literalsOf, plainPlan}
-use Rattle.packbits.specs.Parts.{putAt, packetLength, planLength, roomFaults, Literal, PlannedFits, PlannedPut}
-use Rattle.packbits.proofs.Onward.{and-left, and-right, Upto, upto-none, upto-on, upto-end, put-part, put-length, copied, put-after, put-two}
+use Rattle.packbits.specs.Parts.{bytesAt, Placed, packetLength, planLength, roomFaults, Literal, PlannedFits, PlannedPut}
+use Rattle.packbits.proofs.Onward.{and-left, and-right, Upto, upto-none, upto-on, upto-end, placed-after, placed-two}
 use Rattle.packbits.proofs.Planning.{kept-is, plan-from, planned-at, plan-next, plan-end}
 
 -- a packet's bytes, and a plan's
@@ -54,43 +52,33 @@ module _ (row kinds lengths out : List ℕ) (paired : length kinds ≡ length le
 
 -- one packet put into the output: a literal, and a repeat
 module _ (row out : List ℕ) (at to : ℕ) where
-  pub planned-length : (p : Planned) {new : List ℕ} → PlannedFits row at p out to → PlannedPut row at p out to new → length new ≡ length out
-  planned-length p fit e =
-      ap length e ∙ put-length to (packetOf (drop at row) p) out (rw (packet-long (drop at row) p (kept-is (drop at row) p (fit .keeps-rules) .inside)) (fit .room))
-
-  pub literal-put : (n : ℕ) → PlannedFits row at (Literal n) out to → (new : List ℕ) (a : Done) → let now = set out to (n - 1) in Committed (take (at + n - at) (drop at row)) (take (to + 1 + n - (to + 1)) (drop (to + 1) now)) a new → take (to + 1) now ++ (new ++ drop (to + 1 + n - (to + 1)) (drop (to + 1) now)) ≡ putAt to (packetOf (drop at row) (Literal n)) out
+  pub literal-put : (n : ℕ) → PlannedFits row at (Literal n) out to → {new : List ℕ} → Placed (to + 1) (bytesAt row at n) (set out to (n - 1)) new → Placed to (packetOf (drop at row) (Literal n)) out new
   unfolding packetOf
-  literal-put n fit new a copy =
-      let now = set out to (n - 1) in
-      let read : at + n - at ≡ n = omega arith in
-      let span : to + 1 + n - (to + 1) ≡ n = omega arith in
-      let there = kept-is (drop at row) (Literal n) (fit .keeps-rules) .inside in
-      let source : length (take n (drop at row)) ≡ n = length-take-le n (drop at row) there in
-      let old : length (take n (drop (to + 1) now)) ≡ n = length-take-le n (drop (to + 1) now) (rw (length-drop (to + 1) now, length-set out to (n - 1)) (omega (arith, fit .room))) in
-      let same : new ≡ take n (drop at row) = copied _ _ new a copy (rw (read, span) (source ∙ sym old)) ∙ ap (λ (k : ℕ). take k (drop at row)) read in
-      put-part now (to + 1) (to + 1 + n) same (omega arith) (source ∙ sym span) ∙ put-after out to (n - 1) (take n (drop at row)) (omega (arith, fit .room))
+  literal-put n fit put = placed-after out to (n - 1) (omega (arith, fit .room)) put
 
-  pub repeat-put : (p : Planned) → (p .kind ≡ 0 → ⊥) → PlannedFits row at p out to → set (set out to (257 - p .bytes)) (to + 1) (getD row at 0) ≡ putAt to (packetOf (drop at row) p) out
+  pub repeat-put : (p : Planned) → (p .kind ≡ 0 → ⊥) → PlannedFits row at p out to → Placed to (packetOf (drop at row) p) out (set (set out to (257 - p .bytes)) (to + 1) (getD row at 0))
   unfolding packetOf
   repeat-put p o fit =
       let first : getD (drop at row) 0 0 ≡ getD row at 0 = getD-drop at row 0 0 ∙ ap (λ (k : ℕ). getD row k 0) (add-zero at) in
       let kind = ne-eqb (p .kind) 0 o in
       let room : to + 2 ≤ length out = rw kind at (fit .room) in
-      rw (kind, first) (put-two out to (257 - p .bytes) (getD row at 0) room)
+      rw (kind, first) (placed-two out to (257 - p .bytes) (getD row at 0) room)
 
 -- a plan's packets put up to one of them
 pub record Putting (kinds lengths row out₀ : List ℕ) (at to k : ℕ) (out : List ℕ) : Type 0 where
   pub inside : at ≤ length row
   pub keeps-rules : keeps (drop at row) (plan-from kinds lengths k) ≡ true
-  pub room : to + planLength (plan-from kinds lengths k) ≤ length out₀
+  pub room : to + planLength (plan-from kinds lengths k) ≡ length out₀
   pub upto : Upto (planBytes row (planOf kinds lengths)) (planBytes (drop at row) (plan-from kinds lengths k)) out₀ to out
 
-pub putting-none : (kinds lengths row out : List ℕ) → keeps row (planOf kinds lengths) ≡ true → planLength (planOf kinds lengths) ≤ length out → Putting kinds lengths row out 0 0 0 out
+pub putting-none : (kinds lengths row out : List ℕ) → keeps row (planOf kinds lengths) ≡ true → planLength (planOf kinds lengths) ≡ length out → Putting kinds lengths row out 0 0 0 out
 putting-none kinds lengths row out k room = record { inside = omega arith; keeps-rules = k; room = omega (arith, room); upto = upto-none _ out }
 
 module _ {kinds lengths row out₀ out : List ℕ} {at to k : ℕ} (paired : length kinds ≡ length lengths) (put : Putting kinds lengths row out₀ at to k out) where
-  pub putting-end : length kinds ≤ k → out ≡ putAt 0 (planBytes row (planOf kinds lengths)) out₀
-  putting-end h = upto-end (rw (plan-end kinds lengths k h) at (put .upto))
+  pub putting-end : length kinds ≤ k → out ≡ planBytes row (planOf kinds lengths)
+  putting-end h =
+      let none-left = plan-end kinds lengths k h in
+      upto-end (rw none-left at (put .upto)) (omega (arith, rw none-left at (put .room)))
 
   module _ (more : k < length kinds) where
     next-keeps : (kept (drop at row) (planned-at kinds lengths k) && keeps (drop (getD lengths k 0) (drop at row)) (plan-from kinds lengths (k + 1))) ≡ true
@@ -99,7 +87,7 @@ module _ {kinds lengths row out₀ out : List ℕ} {at to k : ℕ} (paired : len
     next-kept : kept (drop at row) (planned-at kinds lengths k) ≡ true
     next-kept = and-left _ _ next-keeps
 
-    next-room : to + (packetLength (planned-at kinds lengths k) + planLength (plan-from kinds lengths (k + 1))) ≤ length out₀
+    next-room : to + (packetLength (planned-at kinds lengths k) + planLength (plan-from kinds lengths (k + 1))) ≡ length out₀
     next-room = rw (plan-next kinds lengths k more paired) at (put .room)
 
     pub planned-fits : PlannedFits row at (planned-at kinds lengths k) out to
@@ -108,7 +96,7 @@ module _ {kinds lengths row out₀ out : List ℕ} {at to k : ℕ} (paired : len
     pub next-inside : at + getD lengths k 0 ≤ length row
     next-inside = omega (arith, kept-is (drop at row) (planned-at kinds lengths k) next-kept .inside, length-drop at row, put .inside)
 
-    pub putting-on : {new : List ℕ} → new ≡ putAt to (packetOf (drop at row) (planned-at kinds lengths k)) out → Putting kinds lengths row out₀ (at + getD lengths k 0) (to + packetLength (planned-at kinds lengths k)) (k + 1) new
+    pub putting-on : {new : List ℕ} → PlannedPut row at (planned-at kinds lengths k) out to new → Putting kinds lengths row out₀ (at + getD lengths k 0) (to + packetLength (planned-at kinds lengths k)) (k + 1) new
     putting-on {new} e =
         let p = planned-at kinds lengths k in
         let fit = kept-is (drop at row) p next-kept in
@@ -119,7 +107,7 @@ module _ {kinds lengths row out₀ out : List ℕ} {at to k : ℕ} (paired : len
           inside = next-inside;
           keeps-rules = rw past at rest-keeps;
           room = omega (arith, next-room);
-          upto = rw (← past) (rw long at (upto-on (packetOf (drop at row) p) (rw (plan-next kinds lengths k more paired) at (put .upto)) (rw long (omega (arith, next-room))) e));
+          upto = rw (← past) (upto-on (packetOf (drop at row) p) (rw (plan-next kinds lengths k more paired) at (put .upto)) long (omega (arith, next-room)) e);
         }
 
 -- without a plan: the literal that a row begins with, and those behind it
@@ -168,16 +156,18 @@ plain-long (suc g) left e =
 -- literals put up to a place of the row
 pub record PuttingPlain (row out₀ : List ℕ) (at to : ℕ) (out : List ℕ) : Type 0 where
   pub inside : at ≤ length row
-  pub room : to + (length row - at + literalsOf (length row - at)) ≤ length out₀
+  pub room : to + (length row - at + literalsOf (length row - at)) ≡ length out₀
   pub upto : Upto (planBytes row (plainPlan row)) (planBytes (drop at row) (literals (literalsOf (length row - at)) (length row - at))) out₀ to out
 
-pub plain-none : (row out : List ℕ) → length row + literalsOf (length row) ≤ length out → PuttingPlain row out 0 0 out
+pub plain-none : (row out : List ℕ) → length row + literalsOf (length row) ≡ length out → PuttingPlain row out 0 0 out
 plain-none row out h =
     record { inside = omega arith; room = omega (arith, h); upto = rw (sub-zero (length row)) (upto-none (planBytes row (plainPlan row)) out) }
 
 module _ {row out₀ out : List ℕ} {at to : ℕ} (put : PuttingPlain row out₀ at to out) where
-  pub plain-end : length row ≤ at → out ≡ putAt 0 (planBytes row (plainPlan row)) out₀
-  plain-end h = let none-left : length row - at ≡ 0 = omega arith in upto-end (rw none-left at (put .upto))
+  pub plain-end : length row ≤ at → out ≡ planBytes row (plainPlan row)
+  plain-end h =
+      let none-left : length row - at ≡ 0 = omega arith in
+      upto-end (rw none-left at (put .upto)) (omega (arith, rw none-left at (put .room)))
 
   module _ (more : at < length row) where
     abbrev n : ℕ
@@ -194,7 +184,7 @@ module _ {row out₀ out : List ℕ} {at to : ℕ} (put : PuttingPlain row out�
           room = omega (arith, put .room, literal-first, put .upto .same);
         }
 
-    pub plain-on : {new : List ℕ} → new ≡ putAt to (packetOf (drop at row) (Literal n)) out → PuttingPlain row out₀ (at + n) (to + (n + 1)) new
+    pub plain-on : {new : List ℕ} → PlannedPut row at (Literal n) out to new → PuttingPlain row out₀ (at + n) (to + (n + 1)) new
     plain-on {new} e =
         let left = length row - at in
         let first = literal-first in
@@ -204,7 +194,7 @@ module _ {row out₀ out : List ℕ} {at to : ℕ} (put : PuttingPlain row out�
         record {
           inside = omega (arith, first .inside);
           room = rw behind (omega (arith, put .room, first));
-          upto = rw (behind, ← past) (rw long at (upto-on (packetOf (drop at row) (Literal n)) (rw (literals-next left (omega arith)) at (put .upto)) (rw long (omega (arith, put .room, first))) e));
+          upto = rw (behind, ← past) (upto-on (packetOf (drop at row) (Literal n)) (rw (literals-next left (omega arith)) at (put .upto)) long (omega (arith, put .room, first)) e);
         }
 
 -- the faults of a row that is packed without a plan

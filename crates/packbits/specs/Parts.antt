@@ -29,12 +29,12 @@ wholeLiteral packed at left = leb 129 (length packed - at) && leb 128 left && eq
 abbrev pub doesNothing : List ℕ → ℕ → Bool
 doesNothing packed at = ltb at (length packed) && eqb (getD packed at 0) 128
 
--- n bytes of the input into a row
+-- n bytes of a source into a buffer
 abbrev pub bytesAt : List ℕ → ℕ → ℕ → List ℕ
-bytesAt packed begin n = take n (drop begin packed)
+bytesAt source begin n = take n (drop begin source)
 
 abbrev pub CopyFits : List ℕ → ℕ → ℕ → List ℕ → ℕ → Type 0
-CopyFits packed begin n row from = (begin + n ≤ length packed) × (from + n ≤ length row)
+CopyFits source begin n out to = (begin + n ≤ length source) × (to + n ≤ length out)
 
 -- all of a row
 abbrev pub RowFits : List ℕ → List ℕ → Type 0
@@ -64,18 +64,18 @@ pub record PlannedFits (row : List ℕ) (at : ℕ) (p : Planned) (out : List ℕ
   pub room : to + packetLength p ≤ length out
 
 abbrev pub PlannedPut : List ℕ → ℕ → Planned → List ℕ → ℕ → List ℕ → Type 0
-PlannedPut row at p old to new = new ≡ putAt to (packetOf (drop at row) p) old
+PlannedPut row at p old to new = Placed to (packetOf (drop at row) p) old new
 
 pub record PlanFits (row kinds lengths out : List ℕ) : Type 0 where
   pub paired : length kinds ≡ length lengths
   pub keeps-rules : keeps row (planOf kinds lengths) ≡ true
-  pub room : planLength (planOf kinds lengths) ≤ length out
+  pub exact : planLength (planOf kinds lengths) ≡ length out
 
-abbrev pub PlanPut : List ℕ → List ℕ → List ℕ → List ℕ → List ℕ → Type 0
-PlanPut row kinds lengths old new = new ≡ putAt 0 (planBytes row (planOf kinds lengths)) old
+abbrev pub PlanPut : List ℕ → List ℕ → List ℕ → List ℕ → Type 0
+PlanPut row kinds lengths new = new ≡ planBytes row (planOf kinds lengths)
 
 abbrev pub LiteralsFit : List ℕ → List ℕ → Type 0
-LiteralsFit row out = length row + literalsOf (length row) ≤ length out
+LiteralsFit row out = length row + literalsOf (length row) ≡ length out
 
-abbrev pub LiteralsPut : List ℕ → List ℕ → List ℕ → Type 0
-LiteralsPut row old new = new ≡ putAt 0 (planBytes row (plainPlan row)) old
+abbrev pub LiteralsPut : List ℕ → List ℕ → Type 0
+LiteralsPut row new = new ≡ planBytes row (plainPlan row)

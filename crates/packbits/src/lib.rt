@@ -3,6 +3,7 @@ use answer::Done;
 use answer::Refusal;
 use answer::fault;
 
+mod moving;
 mod plans;
 mod reading;
 mod writing;
@@ -117,7 +118,7 @@ pub fn write_plan(row: &[u8], kinds: &[u8], lengths: &[u8], out: &mut [u8]) -> P
     match plan_length(kinds, lengths, out.len()) {
         Packed::Refused(k) => Packed::Refused(k),
         Packed::Length(n) => {
-            put_plan(row, kinds, lengths, out);
+            put_plan(row, kinds, lengths, &mut out[0..n]);
             Packed::Length(n)
         }
     }
@@ -144,6 +145,7 @@ pub fn pack_row(row: &[u8], out: &mut [u8]) -> Packed
     if out.len() - n < packets {
         return Packed::Refused(Refusal::OutputTooSmall);
     }
-    put_literals(row, out);
-    Packed::Length(n + packets)
+    let all = n + packets;
+    put_literals(row, &mut out[0..all]);
+    Packed::Length(all)
 }

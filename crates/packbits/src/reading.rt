@@ -1,4 +1,6 @@
 // Packets that are read: what a first byte says, what is wrong with a packet, and the row that packets fill.
+use crate::moving::copy_bytes;
+use crate::moving::repeat_byte;
 use answer::Done;
 use answer::Refusal;
 use answer::fault;
@@ -9,7 +11,7 @@ ghost use lib.ListN.{length};
 ghost use Rattle.answer.specs.Outcome.{Step};
 ghost use Rattle.answer.specs.Table.{table};
 ghost use Rattle.packbits.specs.Rows.{fills, takes, packetFaults};
-ghost use Rattle.packbits.specs.Parts.{begun, wholeLiteral, doesNothing, bytesAt, putAt, Placed, CopyFits, RowFits, RowFilled};
+ghost use Rattle.packbits.specs.Parts.{begun, wholeLiteral, doesNothing, RowFits, RowFilled};
 
 // The bytes of the row that a packet fills, by its first byte.
 pub(crate) fn fills(header: u8) -> usize
@@ -79,64 +81,6 @@ pub(crate) fn does_nothing(packed: &[u8], at: usize) -> bool
     packed[at] == 128
 }
 
-// So many bytes of the input, from a place of the row on.
-fn copy(packed: &[u8], begin: usize, n: usize, row: &mut [u8], from: usize)
-    requires { ⌜ CopyFits (now packed) begin n (now row) from ⌝ }
-    ensures { λ r. ⌜ now (row .exit) ≡ putAt from (bytesAt (now (packed .entry)) begin n) (now (row .entry)) ⌝ }
-{
-    let end = begin + n;
-    let to = from + n;
-    transport::commit_uninit(&packed[begin..end], &mut row[from..to]);
-}
-
-// A literal's bytes. A short one brings some of what follows along, where there is room: the packets behind it write over that.
-fn copy_literal(packed: &[u8], begin: usize, n: usize, row: &mut [u8], from: usize)
-    requires { ⌜ CopyFits (now packed) begin n (now row) from ⌝ }
-    ensures { λ r. ⌜ Placed from (bytesAt (now (packed .entry)) begin n) (now (row .entry)) (now (row .exit)) ⌝ }
-{
-    let there = packed.len() - begin;
-    let left = row.len() - from;
-    if n == 128 {
-        copy(packed, begin, 128, row, from);
-    } else if (n <= 32) & (32 <= there) & (32 <= left) {
-        copy(packed, begin, 32, row, from);
-    } else {
-        copy(packed, begin, n, row, from);
-    }
-}
-
-fn fill(b: u8, part: &mut [u8])
-    ensures { λ r. ⌜ now (part .exit) ≡ table (length (now (part .entry))) (λ k. b) ⌝ }
-{
-    let mut n: usize = 0;
-    while n < part.len() {
-        part[n] = b;
-        n += 1;
-    }
-}
-
-// A byte so many times, from a place of the row on.
-fn repeat(b: u8, n: usize, row: &mut [u8], from: usize)
-    requires { ⌜ from + n ≤ length (now row) ⌝ }
-    ensures { λ r. ⌜ now (row .exit) ≡ putAt from (table n (λ k. b)) (now (row .entry)) ⌝ }
-{
-    let to = from + n;
-    fill(b, &mut row[from..to]);
-}
-
-// A repeat's bytes; a short one goes on where there is room, as a literal does.
-fn repeat_byte(b: u8, n: usize, row: &mut [u8], from: usize)
-    requires { ⌜ from + n ≤ length (now row) ⌝ }
-    ensures { λ r. ⌜ Placed from (table n (λ k. b)) (now (row .entry)) (now (row .exit)) ⌝ }
-{
-    let left = row.len() - from;
-    if (n <= 32) & (32 <= left) {
-        repeat(b, 32, row, from);
-    } else {
-        repeat(b, n, row, from);
-    }
-}
-
 // All of a row whose packets are sound.
 pub(crate) fn fill_row(packed: &[u8], row: &mut [u8])
     requires { ⌜ RowFits (now packed) (now row) ⌝ }
@@ -148,7 +92,7 @@ pub(crate) fn fill_row(packed: &[u8], row: &mut [u8])
         let header = packed[at];
         if header < 128 {
             let n = header as usize + 1;
-            copy_literal(packed, at + 1, n, row, from);
+            copy_bytes(packed, at + 1, n, row, from);
             from += n;
             at += n + 1;
         } else if header == 128 {

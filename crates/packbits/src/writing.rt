@@ -1,4 +1,5 @@
 // Packets that are written: one literal, one packet of a plan, a plan's, and a row's without a plan.
+use crate::moving::copy_bytes;
 use crate::plans::packet_length;
 ghost use mathlib.Core.Path.{_≡_};
 ghost use lib.Dec.{ltb};
@@ -11,10 +12,7 @@ fn put_literal(row: &[u8], at: usize, n: usize, out: &mut [u8], to: usize)
     ensures { λ r. ⌜ PlannedPut (now (row .entry)) at (Literal n) (now (out .entry)) to (now (out .exit)) ⌝ }
 {
     out[to] = (n - 1) as u8;
-    let end = at + n;
-    let begin = to + 1;
-    let last = begin + n;
-    transport::commit_uninit(&row[at..end], &mut out[begin..last]);
+    copy_bytes(row, at, n, out, to + 1);
 }
 
 fn put_planned(row: &[u8], at: usize, kind: u8, bytes: u8, out: &mut [u8], to: usize)
@@ -32,7 +30,7 @@ fn put_planned(row: &[u8], at: usize, kind: u8, bytes: u8, out: &mut [u8], to: u
 
 pub(crate) fn put_plan(row: &[u8], kinds: &[u8], lengths: &[u8], out: &mut [u8])
     requires { ⌜ PlanFits (now row) (now kinds) (now lengths) (now out) ⌝ }
-    ensures { λ r. ⌜ PlanPut (now (row .entry)) (now (kinds .entry)) (now (lengths .entry)) (now (out .entry)) (now (out .exit)) ⌝ }
+    ensures { λ r. ⌜ PlanPut (now (row .entry)) (now (kinds .entry)) (now (lengths .entry)) (now (out .exit)) ⌝ }
 {
     let mut at: usize = 0;
     let mut to: usize = 0;
@@ -55,7 +53,7 @@ fn next_literal(left: usize) -> usize
 
 pub(crate) fn put_literals(row: &[u8], out: &mut [u8])
     requires { ⌜ LiteralsFit (now row) (now out) ⌝ }
-    ensures { λ r. ⌜ LiteralsPut (now (row .entry)) (now (out .entry)) (now (out .exit)) ⌝ }
+    ensures { λ r. ⌜ LiteralsPut (now (row .entry)) (now (out .exit)) ⌝ }
 {
     let mut at: usize = 0;
     let mut to: usize = 0;

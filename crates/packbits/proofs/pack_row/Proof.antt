@@ -2,12 +2,12 @@
 use borrow.Author.Needs.{needs}
 use native.Mathlib.Omega.{arith}
 use Prim.Native.Nat.{_+_, _≤_}
-use mathlib.Core.Path.{sym, ap, _∙_}
+use mathlib.Core.Path.{sym}
 use lib.ListN.{length}
 use denote.Ref.{now}
 use Rattle.answer.proofs.Promised.{refuses}
 use Rattle.packbits.specs.Plans.{literalsOf, plainPlan, planBytes, packFaults}
-use Rattle.packbits.proofs.Onward.{finishes-with}
+use Rattle.packbits.proofs.Onward.{finishes-with, front-length, put-part}
 use Rattle.packbits.proofs.Putting.{plain-bytes, pack-first, pack-sound}
 use Rattle.packbits.proofs.pack_row.Statement.{statement}
 use Rattle.packbits.proofs.pack_row.Tie as tie
@@ -32,8 +32,15 @@ pack-row-spec =
     let count = enough .before in
     let args = begun count .args in
     refuses (packFaults (now (args .row)) (now (args .out))) _ _ _ (pack-first (now (args .row)) (now (args .out)) (omega (arith, c .if2 .taken, enough .if1 .left, count .literals-of .ensures))))
-    (λ c κs. room (c .before))
-    (λ c. let all = c .before .before .before .before in omega (arith, room all, all .before .before .literals-of .ensures))
+    (λ c. omega (arith, room c, c .before .before .literals-of .ensures))
+    (λ c. omega arith)
+    (λ c. omega arith)
+    (λ c. omega (arith, room c, c .before .before .literals-of .ensures))
+    (λ c κs.
+    let all = c .before in
+    let count = all .before .before in
+    let args = begun count .args in
+    sym (rw (count .literals-of .ensures) (front-length (length (now (args .row)) + literalsOf (length (now (args .row)))) (now (args .out)) (room all))))
     (λ c. search needs)
     (λ c.
     let put = c .before .before in
@@ -41,4 +48,6 @@ pack-row-spec =
     let count = all .before .before in
     let args = begun count .args in
     let row = now (args .row) in
-    finishes-with (packFaults row (now (args .out))) (planBytes row (plainPlan row)) (pack-sound row (now (args .out)) (room all)) (omega (arith, plain-bytes row, count .literals-of .ensures)) (put .put-literals .ensures)))
+    let out = now (args .out) in
+    let long = plain-bytes row in
+    finishes-with (packFaults row out) (planBytes row (plainPlan row)) (pack-sound row out (room all)) (omega (arith, long, count .literals-of .ensures)) (put-part out 0 (length row + count .literals-of .result) (put .put-literals .ensures) (omega arith) (omega (arith, long, count .literals-of .ensures)))))

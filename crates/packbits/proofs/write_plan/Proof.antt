@@ -12,7 +12,7 @@ use Rattle.answer.specs.Outcome.{Fault, Sound, First, here, later, next, none}
 use Rattle.answer.proofs.Promised.{refuses}
 use Rattle.packbits.specs.Plans.{Planned, planOf, keeps, planBytes, planFaults}
 use Rattle.packbits.specs.Parts.{planLength}
-use Rattle.packbits.proofs.Onward.{finishes-with}
+use Rattle.packbits.proofs.Onward.{finishes-with, front-length, put-part}
 use Rattle.packbits.proofs.Planning.{length-refused, length-done}
 use Rattle.packbits.proofs.Putting.{plan-long, plan-first, plan-sound}
 use Rattle.laws.proofs.Says.{held}
@@ -56,10 +56,15 @@ write-plan-spec =
     (λ c κs. paired (c .before .before))
     (λ c. search needs)
     (λ c. search needs)
+    (λ c. omega arith)
+    (λ c. omega arith)
+    (λ c. omega (arith, found (c .before)))
     (λ c κs.
     let told = c .before .before in
     let keep = told .before .before .before in
-    record { paired = paired (keep .before .before); keeps-rules = kept keep; room = found told .0 })
+    let even = keep .before .before in
+    let fit = found told in
+    record { paired = paired even; keeps-rules = kept keep; exact = fit .1 ∙ sym (front-length (told .n .given .0 .0) (now (begun even .args .out)) (omega (arith, fit))) })
     (λ c.
     let told = c .before in
     let size = told .before .before in
@@ -76,4 +81,5 @@ write-plan-spec =
     let start = begun even in
     let row = now (start .args .row) in
     let fit = found told in
-    finishes-with (faults start) (planBytes row (plan start)) (plan-sound row (now (start .args .kinds)) (now (start .args .lengths)) (now (start .args .out)) (paired even) (kept keep) (fit .0)) (sym (plan-long row (plan start) (kept keep) ∙ fit .1)) (put .put-plan .ensures)))
+    let long = plan-long row (plan start) (kept keep) ∙ fit .1 in
+    finishes-with (faults start) (planBytes row (plan start)) (plan-sound row (now (start .args .kinds)) (now (start .args .lengths)) (now (start .args .out)) (paired even) (kept keep) (fit .0)) (sym long) (put-part (now (start .args .out)) 0 (told .n .given .0 .0) (put .put-plan .ensures) (omega arith) (omega (arith, long)))))

@@ -65,7 +65,7 @@ fill-row-spec =
     (λ c. omega (arith, c .if1 .taken))
     (λ c. omega (arith, c .if1 .taken))
     (λ c. omega (arith, fit (turn c)))
-    (λ c κs. let end = literal-ends (c .before) in (omega (arith, end .0), end .1))
+    (λ c κs. let small = c .before in let end = literal-ends small in (omega (arith, small .if1 .taken), (omega (arith, end .0), end .1)))
     (λ c. omega (arith, literal-ends (c .before .before .before .before)))
     (λ c. omega (arith, literal-ends (c .before .before .before .before)))
     (λ c. omega (arith, literal-ends (c .before .before .before .before)))
@@ -75,7 +75,7 @@ fill-row-spec =
     let small = put .before .before in
     let again = turn small in
     let loop = again .before in
-    filling-on (loop .loop .inv) (again .loop-test .taken) (literal small) (copied-bytes (now (begun loop .args .packed)) (loop .loop .at) (left loop) (small .if1 .taken)) (put .copy-literal .ensures))
+    filling-on (loop .loop .inv) (again .loop-test .taken) (literal small) (copied-bytes (now (begun loop .args .packed)) (loop .loop .at) (left loop) (small .if1 .taken)) (put .copy-bytes .ensures))
     (λ c. omega (arith, fit (later-turn (c .before))))
     (λ c. omega (arith, fit (later-turn (c .before))))
     (λ c.
@@ -98,5 +98,5 @@ fill-row-spec =
     let loop = again .before in
     let kind = repeats _ (beyond large) in
     filling-on (loop .loop .inv) (again .loop-test .taken) kind (repeated-bytes (now (begun loop .args .packed)) (loop .loop .at) (left loop) (omega (arith, beyond large)) kind) (put .repeat-byte .ensures))
-    (λ c. c .before .loop .inv .same)
+    (λ c. c .before .loop .inv .upto .same)
     (λ c. let loop = c .before in filling-end (loop .loop .inv) (omega (arith, c .loop-test .left))))

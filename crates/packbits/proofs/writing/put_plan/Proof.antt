@@ -25,7 +25,7 @@ put-plan-spec =
     (tie.spec
     Inv-loop
     μ-loop
-    (λ c. let start = c .before .before .before .before in (omega arith, putting-none _ _ _ _ (start .pre .keeps-rules) (start .pre .room)))
+    (λ c. let start = c .before .before .before .before in (omega arith, putting-none _ _ _ _ (start .pre .keeps-rules) (start .pre .exact)))
     (λ c. omega (arith, c .before .loop-test .taken))
     (λ c. let again = c .before .before in omega (arith, again .loop-test .taken, begun (again .before) .pre .paired))
     (λ c κs. let again = c .before .before .before in let loop = again .before in planned-fits (begun loop .pre .paired) (loop .loop .inv .1) (again .loop-test .taken))

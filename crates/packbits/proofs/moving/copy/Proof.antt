@@ -1,10 +1,10 @@
--- `packbits::reading::copy` meets its contract: a part of the row is a copy of a part of the input. Assumes nothing.
+-- `packbits::moving::copy` meets its contract: a part of the row is a copy of a part of the input. Assumes nothing.
 use borrow.Author.Needs.{needs}
 use native.Mathlib.Omega.{arith}
 use denote.Ref.{now}
-use Rattle.packbits.proofs.Packets.{part-copied}
-use Rattle.packbits.proofs.reading.copy.Statement.{statement}
-use Rattle.packbits.proofs.reading.copy.Tie as tie
+use Rattle.packbits.proofs.Placing.{part-copied}
+use Rattle.packbits.proofs.moving.copy.Statement.{statement}
+use Rattle.packbits.proofs.moving.copy.Tie as tie
 
 pub copy-spec : {M : Type 1} → statement M
 copy-spec =
@@ -17,4 +17,4 @@ copy-spec =
     let moved = c .before .before in
     let start = moved .before .before .before .before .before in
     let args = start .args in
-    part-copied (now (args .packed)) (now (args .row)) (args .begin) (args .n) (args .from) (start .pre) _ (moved .commit-uninit .result) (moved .commit-uninit .ensures)))
+    part-copied (now (args .source)) (now (args .out)) (args .begin) (args .n) (args .to) (start .pre) _ (moved .commit-uninit .result) (moved .commit-uninit .ensures)))

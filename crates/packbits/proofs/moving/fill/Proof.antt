@@ -1,4 +1,4 @@
--- `packbits::reading::fill` meets its contract: what is written so far is the byte. Assumes nothing.
+-- `packbits::moving::fill` meets its contract: what is written so far is the byte. Assumes nothing.
 use borrow.Author.Needs.{needs}
 use native.Mathlib.Omega.{arith}
 use Prim.Native.Nat.{_-_, _<_}
@@ -6,8 +6,8 @@ use mathlib.Core.Path.{refl}
 use lib.ListN.{length}
 use denote.Ref.{now}
 use Rattle.laws.proofs.Lists.{FilledTo, filled-none, filled-next, filled-end}
-use Rattle.packbits.proofs.reading.fill.Statement.{statement}
-use Rattle.packbits.proofs.reading.fill.Tie as tie
+use Rattle.packbits.proofs.moving.fill.Statement.{statement}
+use Rattle.packbits.proofs.moving.fill.Tie as tie
 
 abbrev Inv-loop : tie.InvT-loop
 Inv-loop b part₀ n₀ part n = FilledTo (λ k. b) part₀ n part
