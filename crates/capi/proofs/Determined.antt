@@ -36,6 +36,9 @@ use Rattle.packets.proofs.Determined.{start-determined}
 use Rattle.packet_numbers.specs.Numbers.{Stands, PieceOn, CloseOn}
 use Rattle.packet_numbers.proofs.Standing.{Numbers, stands-once}
 use Rattle.packet_numbers.proofs.Determined.{piece-determined, close-determined}
+use Rattle.packbits.specs.Rows.{usedOutcome, RowUnpacked}
+use Rattle.packbits.specs.Plans.{packedOutcome, PlanWritten, RowPacked}
+use Rattle.packbits.proofs.Determined.{unpack-row-determined, write-plan-determined, pack-row-determined}
 use Rattle.capi.specs.Told.{status, lent, derivedOutcome, Told, Lent, StartTold}
 use Rattle.capi.specs.OnLayouts.{fieldsOf, flagged, OnLayout, RefusedUnserved}
 
@@ -133,3 +136,12 @@ hamrisk-packets-piece-determined state piece old written r s m n v w x y nv nw =
 
 pub hamrisk-packets-close-determined : (state : List ℕ) (r s : ℕ) → Told doneOutcome (CloseOn state) r → Told doneOutcome (CloseOn state) s → r ≡ s
 hamrisk-packets-close-determined state r s t u = told-once (λ a b p q. (close-determined state a b p q, tt {0})) t u .0
+
+pub hamrisk-unpack-row-determined : (packed old : List ℕ) (used r s m n : ℕ) (x y : List ℕ) → Lent usedOutcome (λ a. RowUnpacked packed old a x) r used m → Lent usedOutcome (λ a. RowUnpacked packed old a y) s used n → ((r ≡ s) × (m ≡ n)) × (x ≡ y)
+hamrisk-unpack-row-determined packed old used r s m n x y = lent-once (λ a b. unpack-row-determined packed old a b x y)
+
+pub hamrisk-write-plan-lists-determined : (row kinds lengths old : List ℕ) (length r s m n : ℕ) (x y : List ℕ) → Lent packedOutcome (λ a. PlanWritten row kinds lengths old a x) r length m → Lent packedOutcome (λ a. PlanWritten row kinds lengths old a y) s length n → ((r ≡ s) × (m ≡ n)) × (x ≡ y)
+hamrisk-write-plan-lists-determined row kinds lengths old length r s m n x y = lent-once (λ a b. write-plan-determined row kinds lengths old a b x y)
+
+pub hamrisk-pack-row-determined : (row old : List ℕ) (length r s m n : ℕ) (x y : List ℕ) → Lent packedOutcome (λ a. RowPacked row old a x) r length m → Lent packedOutcome (λ a. RowPacked row old a y) s length n → ((r ≡ s) × (m ≡ n)) × (x ≡ y)
+hamrisk-pack-row-determined row old length r s m n x y = lent-once (λ a b. pack-row-determined row old a b x y)

@@ -1,24 +1,22 @@
 -- A plan is accepted exactly if it keeps the rules in plain words, given room (rule 17.8). Assumes nothing.
-use Prim.Native.Nat.{ℕ, zero, suc, _+_, _-_, _≤_, _<_}
-use mathlib.Core.Path.{_≡_, refl, sym, ap, _∙_}
-use mathlib.Core.Bool.{true, false, _&&_}
+use Prim.Native.Nat.{ℕ, zero, suc, _+_, _-_, _≤_}
+use mathlib.Core.Path.{_≡_, sym, ap, _∙_}
+use mathlib.Core.Bool.{true}
 use mathlib.Core.List.{List, []}
-use mathlib.Core.Logic.{_⊎_, inl, inr}
-use native.Mathlib.Decide.{decLt, ℕ-discrete}
+use native.Mathlib.Decide.{ℕ-discrete}
 use native.Mathlib.Nat.{add-zero, add-suc}
 use native.Mathlib.Numerals.{add-one}
 use native.Mathlib.Omega.{arith}
-use borrow.Author.Tests.{eqb-true, eq-eqb, le-leb, le-ltb, not-false}
+use borrow.Author.Tests.{eqb-true, eq-eqb, le-leb, not-false}
 use lib.ListN.{length, getD, drop, length-drop}
 use lib.Seq.{getD-drop, drop-drop}
-use lib.Dec.{eqb, leb}
-use Rattle.answer.specs.Outcome.{Sound, done}
+use lib.Dec.{eqb}
 use Rattle.answer.proofs.Promised.{done-sound, sound-done, sound-here, sound-rest}
 use Rattle.laws.specs.Turns.{sum}
 use Rattle.laws.proofs.Turns.{every-one, every-all}
 use Rattle.packbits.specs.declared.Packed.{Packed}
 use Rattle.packbits.specs.declared.Packed.the-variants as Packed-is
-use Rattle.packbits.specs.Plans.{Planned, planOf, alike, literalRule, repeatRule, kept, keeps, startOf, PacketRule, literal, repeat, PlanRules, planBytes, planFaults, PlanWritten}
+use Rattle.packbits.specs.Plans.{planOf, alike, literalRule, repeatRule, kept, keeps, startOf, PacketRule, literal, repeat, PlanRules, planBytes, planFaults, PlanWritten}
 use Rattle.packbits.proofs.Determined.{length-once}
 use Rattle.packbits.proofs.Onward.{and-left, used-up}
 use Rattle.packbits.proofs.Planning.{kept-is, planned-at, plan-from, plan-next, plan-end, Checked, checked-none, checked-on, checked-end, next-kept}

@@ -8,9 +8,9 @@ use native.Mathlib.Numerals.{add-one}
 use native.Mathlib.Omega.{arith}
 use native.Mathlib.Decide.{ℕ-discrete}
 use borrow.Author.Tests.{le-ltb, eq-eqb, ne-eqb}
-use lib.ListN.{length, getD, take, drop, set, length-set, take-append-drop, length-append, length-drop, drop-of-length-le}
+use lib.ListN.{length, getD, take, drop, set, length-set, length-append, length-drop, drop-of-length-le}
 use lib.Dec.{eqb}
-use lib.Seq.{take-at, drop-at, drop-drop, length-take-le, take-all, take-suc-set, drop-set-lt, set-split, take-append-add, take-append-le}
+use lib.Seq.{drop-drop, length-take-le, take-all, take-suc-set, take-append-add, take-append-le}
 use Rattle.answer.specs.declared.Done.{Done}
 use Rattle.answer.specs.Outcome.{Fault, Sound, none, next, First, Outcome, done, unless, after, Promise, Step}
 use Rattle.answer.proofs.Promised.{sound-then, sound-more, sound-skip, finishing, finished, sound-done}

@@ -7,7 +7,7 @@ use native.Mathlib.Omega.{arith}
 use native.Mathlib.Nat.{sub-zero, add-zero, zero-add, add-assoc}
 use borrow.Author.Tests.{ltb-true, ltb-false, leb-true, eqb-true, eqb-false, eq-eqb, ne-eqb, lt-ltb, le-ltb}
 use lib.ListN.{length, getD, take, drop, length-drop, length-append}
-use lib.Seq.{getD-drop, drop-drop, length-take-le, take-all, take-take}
+use lib.Seq.{getD-drop, drop-drop, length-take-le, take-all}
 use lib.Dec.{eqb, ltb, leb}
 use Rattle.answer.specs.declared.Done.{Done}
 use Rattle.answer.specs.declared.Done.the-variants as Done-is
@@ -16,13 +16,11 @@ use Rattle.answer.specs.declared.Refusal.the-variants.{Invalid, Truncated}
 use Rattle.answer.specs.Outcome.{Fault, Sound, none, next, First, here, done, unless, number, pick, truncated, faultOf, Step, InOrder}
 use Rattle.answer.proofs.Promised.{refusing, refused-told, done-sound, done-value, first-more, sound-front, sound-back, sound-here, sound-rest}
 use Rattle.answer.specs.Table.{table}
-use Rattle.answer.proofs.Filling.{length-table, table-at, table-same}
-use Rattle.laws.proofs.Lists.{own-front}
-use Rattle.transport.specs.Moved.{Committed}
+use Rattle.answer.proofs.Filling.{length-table}
 use Rattle.packbits.specs.declared.Unpacked.{Unpacked}
 use Rattle.packbits.specs.declared.Unpacked.the-variants as Unpacked-is
 use Rattle.packbits.specs.Rows.{fills, takes, Packet, header, behind, packetsUpto, packets, packetFaults, packetBytes, faultsOf, bytesOf, takenBy, rowFaults, rowBytes, used, rowsFaults, usedOutcome, RowMeasured}
-use Rattle.packbits.specs.Parts.{begun, wholeLiteral, doesNothing, putAt, bytesAt, Placed, CopyFits}
+use Rattle.packbits.specs.Parts.{begun, wholeLiteral, doesNothing, bytesAt, Placed}
 use Rattle.packbits.proofs.Onward.{and-left, and-right, Past, past-none, past-on, past-first, past-sound, past-step, used-up, Upto, upto-none, upto-on, upto-end}
 
 -- a packet takes a byte or more

@@ -1,22 +1,22 @@
 -- A plan packet by packet: the rules that one keeps, and what a check, a count and a loop that writes have behind them. Assumes nothing.
-use Prim.Native.Nat.{ℕ, suc, _+_, _-_, _≤_, _<_}
+use Prim.Native.Nat.{ℕ, _+_, _-_, _≤_, _<_}
 use mathlib.Core.Path.{_≡_, refl, sym, ap, _∙_}
-use mathlib.Core.Bool.{Bool, true, false, not, _&&_}
-use mathlib.Core.List.{List, [], _∷_, _++_}
+use mathlib.Core.Bool.{Bool, true, false, _&&_}
+use mathlib.Core.List.{List, [], _∷_}
 use native.Mathlib.Omega.{arith}
 use native.Mathlib.Nat.{add-zero, zero-add, add-assoc}
 use native.Mathlib.Numerals.{add-one}
-use borrow.Author.Tests.{ltb-false, leb-true, le-leb, lt-leb, eqb-true, eq-eqb, ne-eqb, lt-ltb, le-ltb}
-use lib.ListN.{length, getD, take, drop, length-drop, length-append, drop-of-length-le}
-use lib.Seq.{getD-drop, drop-drop, drop-cons, length-take-le, getD-take}
-use lib.Dec.{eqb, leb, ltb}
+use borrow.Author.Tests.{ltb-false, leb-true, le-leb, lt-leb, eqb-true, eq-eqb, ne-eqb}
+use lib.ListN.{length, getD, take, drop, length-drop, drop-of-length-le}
+use lib.Seq.{drop-drop, drop-cons, length-take-le, getD-take}
+use lib.Dec.{eqb, leb}
 use Rattle.answer.specs.declared.Refusal.{Refusal}
 use Rattle.answer.specs.Outcome.{First, done, unless, number, pick}
 use Rattle.answer.proofs.Promised.{refused-told, done-sound, done-value, sound-here}
 use Rattle.laws.proofs.Turns.{every-same}
 use Rattle.packbits.specs.declared.Packed.{Packed}
 use Rattle.packbits.specs.declared.Packed.the-variants as Packed-is
-use Rattle.packbits.specs.Plans.{packedOutcome, Planned, planOf, alike, literalRule, repeatRule, kept, keeps, packetOf, planBytes}
+use Rattle.packbits.specs.Plans.{packedOutcome, Planned, planOf, alike, literalRule, repeatRule, kept, keeps}
 use Rattle.packbits.specs.Parts.{packetLength, planLength, roomFaults}
 use Rattle.packbits.proofs.Onward.{and-left, and-right, used-up}
 

@@ -2,15 +2,15 @@
 use Prim.Native.Nat.{ℕ, zero, suc, _+_, _-_, _≤_, _<_}
 use mathlib.Core.Path.{_≡_, refl, sym, ap, _∙_}
 use mathlib.Core.Bool.{Bool, true, false, _&&_}
-use mathlib.Core.List.{List, [], _∷_, _++_}
+use mathlib.Core.List.{List, [], _∷_}
 use native.Mathlib.Omega.{arith}
 use native.Mathlib.Nat.{add-zero, sub-zero}
 use native.Mathlib.Numerals.{add-one}
 use native.Mathlib.Decide.{decLt}
 use borrow.Author.Tests.{eq-eqb, ne-eqb, lt-ltb, le-ltb, le-leb}
-use lib.ListN.{length, getD, take, drop, set, length-set, length-drop, length-append}
+use lib.ListN.{length, getD, take, drop, set, length-drop, length-append}
 use lib.Seq.{getD-drop, drop-drop, length-take-le}
-use lib.Dec.{eqb, ltb, leb}
+use lib.Dec.{eqb, ltb}
 use Rattle.answer.specs.Outcome.{Sound, First, here, later, next, none, outputTooSmall, pick}
 use Rattle.laws.proofs.Says.{held}
 use Rattle.packbits.specs.Plans.{Planned, planOf, kept, keeps, literalRule, packetOf, planBytes, planFaults, packFaults, literals, literalsOf, plainPlan}

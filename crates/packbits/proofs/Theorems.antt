@@ -1,32 +1,28 @@
--- Rows that are written read back: by a plan that is accepted, and without one; and every plan that keeps the rules is accepted (rules 17.8 to 17.10).
--- Assumes nothing.
-use Prim.Native.Nat.{ℕ, zero, suc, _+_, _-_, _≤_, _<_}
+-- Rows that are written read back: by a plan that is accepted, and without one (rules 17.9 and 17.10). Assumes nothing.
+use Prim.Native.Nat.{ℕ, _+_, _-_, _≤_, _<_}
 use mathlib.Core.Path.{_≡_, refl, sym, ap, _∙_}
-use mathlib.Core.Bool.{Bool, true, false, _&&_}
+use mathlib.Core.Bool.{Bool, true, false}
 use mathlib.Core.List.{List, [], _∷_, _++_, append-assoc, append-nil}
 use native.Mathlib.Omega.{arith}
-use native.Mathlib.Numerals.{add-one}
-use borrow.Author.Tests.{eqb-true, eqb-false, eq-eqb, ne-eqb, lt-ltb, le-ltb, le-leb, not-false}
+use borrow.Author.Tests.{eqb-true, eqb-false, lt-ltb, le-ltb, not-false}
 use lib.ListN.{length, getD, take, drop, take-append-drop, length-drop, length-append, drop-of-length-le}
-use lib.Seq.{drop-at, take-at, length-take-le, drop-drop}
-use lib.Dec.{eqb, ltb}
+use lib.Seq.{drop-at, take-at, length-take-le}
+use lib.Dec.{eqb}
 use Rattle.answer.specs.Outcome.{Outcome, Sound, none, done, after, pick}
-use Rattle.answer.specs.Table.{table}
-use Rattle.answer.proofs.Promised.{sound-more, finishing, writes, done-sound, done-value, sound-done, sound-here, sound-rest}
+use Rattle.answer.proofs.Promised.{sound-more, writes, done-sound, done-value, sound-done, sound-here, sound-rest}
 use Rattle.answer.proofs.Filling.{table-same}
 use Rattle.laws.proofs.Lists.{own-front}
 use Rattle.laws.proofs.Turns.{every-one}
 use Rattle.packbits.specs.declared.Unpacked.{Unpacked}
 use Rattle.packbits.specs.declared.Unpacked.the-variants as Unpacked-is
-use Rattle.packbits.specs.declared.Packed.{Packed}
 use Rattle.packbits.specs.declared.Packed.the-variants as Packed-is
-use Rattle.packbits.specs.Rows.{fills, takes, Packet, header, behind, packets, packetFaults, packetBytes, faultsOf, bytesOf, takenBy, rowFaults, rowBytes, used, RowUnpacked}
+use Rattle.packbits.specs.Rows.{fills, takes, Packet, header, behind, packets, packetBytes, bytesOf, takenBy, rowFaults, rowBytes, used, RowUnpacked}
 use Rattle.packbits.specs.Plans.{Planned, planOf, kept, keeps, packetOf, planBytes, plainPlan, literalsOf, planFaults, packFaults, PlanWritten, RowPacked}
 use Rattle.packbits.proofs.Determined.{answer-once}
 use Rattle.packbits.proofs.Onward.{and-left, and-right}
-use Rattle.packbits.proofs.Packets.{Header, copies, repeats, takes-some, goes-on, sound-packet}
+use Rattle.packbits.proofs.Packets.{copies, repeats, takes-some, goes-on, sound-packet}
 use Rattle.packbits.proofs.Planning.{Kept, kept-is}
-use Rattle.packbits.proofs.Putting.{packet-long, plain-keeps, plain-bytes}
+use Rattle.packbits.proofs.Putting.{plain-keeps, plain-bytes}
 
 -- an input that begins with a packet: what its first byte says, and what it fills the row with
 pub record Packs (bytes rest row : List ℕ) (n : ℕ) : Type 0 where

@@ -1,4 +1,4 @@
--- A row that is packed: a plan of packets, the rules that it keeps, and what it writes (rules 17.7 to 17.10). Assumes nothing.
+-- A row that is packed: a plan of packets, the rules that it keeps, and what it writes (rules 17.7 to 17.9). Assumes nothing.
 use Prim.Native.Nat.{ℕ, zero, suc, _+_, _-_, _/_, _≤_, _<_}
 use mathlib.Core.Path.{_≡_}
 use mathlib.Core.Bool.{Bool, not, _&&_}

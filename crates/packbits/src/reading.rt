@@ -9,7 +9,6 @@ ghost use mathlib.Core.Path.{_≡_};
 ghost use Prim.Native.Nat.{_+_, _≤_};
 ghost use lib.ListN.{length};
 ghost use Rattle.answer.specs.Outcome.{Step};
-ghost use Rattle.answer.specs.Table.{table};
 ghost use Rattle.packbits.specs.Rows.{fills, takes, packetFaults};
 ghost use Rattle.packbits.specs.Parts.{begun, wholeLiteral, doesNothing, RowFits, RowFilled};
 

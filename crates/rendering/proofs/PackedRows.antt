@@ -23,7 +23,7 @@ use Rattle.pixels.specs.Render.{rowBytes, source, slotShift, mapByte, paletteIn
 use Rattle.laws.proofs.Groups.{group-of, item-of}
 use Rattle.pixels.proofs.Undo.{bilevel-converted}
 use Rattle.laws.proofs.Picks.{picked}
-use Rattle.packed.specs.Rows.{bilevelAt, bilevelFaults, BilevelRow, coloursOf, paletteAt, paletteFaults, PaletteRow}
+use Rattle.slots.specs.Rows.{bilevelAt, bilevelFaults, BilevelRow, coloursOf, paletteAt, paletteFaults, PaletteRow}
 use Rattle.rendering.specs.Rows.{RowAsked, RowRendered}
 
 module _ {l : RasterLayout} {file raw : List ℕ} {y : ℕ} {out : List ℕ} (row : RowAsked l file raw y out) (is : packed l ≡ true) where

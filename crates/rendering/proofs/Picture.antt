@@ -18,7 +18,7 @@ use Rattle.layout.specs.Layout.{byteLimit, packed, colours, recordFaults}
 use Rattle.layout.proofs.Whole.{record-accepted, record-agreed}
 use Rattle.pixels.specs.Render.{rowBytes, converted, drawFaults, renderFaults}
 use Rattle.pixels.proofs.Places.{output-rows}
-use Rattle.packed.proofs.Painting.{colours-few}
+use Rattle.slots.proofs.Painting.{colours-few}
 use Rattle.laws.proofs.Says.{inside-if}
 use Rattle.rendering.specs.Rows.{PlainRowAsked, PlainRendered, RenderServed, RowAsked, RowRendered, RowsRendered}
 

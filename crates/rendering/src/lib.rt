@@ -26,9 +26,9 @@ fn packed_row(l: RasterLayout, file: &[u8], raw: &[u8], y: usize, out: &mut [u8]
     let end = from + l.encoded_width;
     let row = &raw[from..end];
     if l.fields.palette {
-        packed::palette_row(file, l.fields.map, l.fields.slots, l.fields.le, row, out);
+        slots::palette_row(file, l.fields.map, l.fields.slots, l.fields.le, row, out);
     } else {
-        packed::bilevel_row(row, l.fields.white, out);
+        slots::bilevel_row(row, l.fields.white, out);
     }
 }
 

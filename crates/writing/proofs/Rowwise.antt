@@ -28,7 +28,7 @@ use Rattle.pixels.proofs.Places.{output-rows, together-is, together-place}
 use Rattle.laws.proofs.Groups.{group-of, item-of, whole-last, whole-middle}
 use Rattle.pixels.proofs.Undo.{bilevel-scratch}
 use Rattle.laws.proofs.Picks.{picked, not-picked}
-use Rattle.packed.specs.Rows.{eighths, packedAt, packFaults, PackRow}
+use Rattle.slots.specs.Rows.{eighths, bitsAt, bitFaults, BitRow}
 use Rattle.pixels.specs.Render.{OneOrTwo}
 use Rattle.writing.specs.Parts.{planar, PlainFits, PlainRowWritten, RowGiven, rowAt, RowWritten, Together, WrittenInto}
 use Rattle.pixels.proofs.HighFirst.{one-or-two, high-first-in, high-first-below}
@@ -91,8 +91,8 @@ module _ (l : RasterLayout) (s : Sound (recordFaults l)) (bare : l .fields .pale
 
   -- a bilevel row: each byte has eight columns
   module _ (eight : l .fields .slots ≡ 8) (picture : List ℕ) (y : ℕ) (inside : y * rowBytes l + rowBytes l ≤ length picture) (j : ℕ) (h : j < planeRow l) where
-    packed-byte : packedAt (l .fields .white) (part (y * rowBytes l) (y * rowBytes l + rowBytes l) picture) j ≡ written l picture (y * planeRow l + j)
-    unfolding packedAt bilevelPlane written
+    packed-byte : bitsAt (l .fields .white) (part (y * rowBytes l) (y * rowBytes l + rowBytes l) picture) j ≡ written l picture (y * planeRow l + j)
+    unfolding bitsAt bilevelPlane written
     packed-byte = value-same 2 8 _ _ (λ p q. each p) ∙ sym (picked _ _ (eq-eqb (l .fields .slots) 8 eight))
       where
         row : List ℕ
@@ -177,13 +177,13 @@ module _ (l : RasterLayout) (s : Sound (recordFaults l)) (bare : l .fields .pale
 
 -- a row, by itself
 module _ {l : RasterLayout} {row old : List ℕ} (fits : RowGiven l row old) where
-  pub row-packed : l .fields .slots ≡ 8 → (answer : Done) (new : List ℕ) → PackRow row (l .fields .white) old answer new → RowWritten l row old new
+  pub row-packed : l .fields .slots ≡ 8 → (answer : Done) (new : List ℕ) → BitRow row (l .fields .white) old answer new → RowWritten l row old new
   row-packed e answer new p =
       let sides = bilevel-row l (fits .sound) (fits .bare) (fits .together) e in
       let enough : eighths (length row) ≡ length old = omega (arith, sides, fits .all, fits .room, bilevel-eighths l (fits .sound) (fits .bare) (fits .together) e) in
-      finished (packFaults row old) tt (eighths (length row)) (packedAt (l .fields .white) row) old new (next (le-ltb (length old) (eighths (length row)) (omega arith)) none) p
-      ∙ filled-all (eighths (length row)) (packedAt (l .fields .white) row) old (omega arith)
-      ∙ ap (λ (n : ℕ). table n (packedAt (l .fields .white) row)) enough
+      finished (bitFaults row old) tt (eighths (length row)) (bitsAt (l .fields .white) row) old new (next (le-ltb (length old) (eighths (length row)) (omega arith)) none) p
+      ∙ filled-all (eighths (length row)) (bitsAt (l .fields .white) row) old (omega arith)
+      ∙ ap (λ (n : ℕ). table n (bitsAt (l .fields .white) row)) enough
       ∙ table-same (length old) _ _ (λ j h. sym (picked _ _ (eq-eqb (l .fields .slots) 8 e)))
 
   module _ (n : l .fields .slots ≡ 8 → ⊥) where

@@ -11,7 +11,7 @@ use Rattle.layout.specs.declared.RasterLayout.{RasterLayout}
 use Rattle.layout.specs.Layout.{recordFaults, highFirst}
 use Rattle.pixels.specs.Render.{rowBytes, planeRow, flipped, OneOrTwo}
 use Rattle.pixels.specs.Planes.{flipsChannel, twoLevels, written}
-use Rattle.packed.specs.Rows.{packedAt}
+use Rattle.slots.specs.Rows.{bitsAt}
 
 -- a picture that is there, of a layout that can be
 pub record LevelsAsked (l : RasterLayout) (picture : List ℕ) : Type 0 where
@@ -93,7 +93,7 @@ pub record RowGiven (l : RasterLayout) (row out : List ℕ) : Type 0 where
 
 -- byte j of a row of the planes
 abbrev pub rowAt : RasterLayout → List ℕ → ℕ → ℕ
-rowAt l row j = pick (eqb (l .fields .slots) 8) (packedAt (l .fields .white) row j) (flipped (flipsChannel l (j % l .fields .ch)) (getD row (highFirst (l .fields .bytes) (l .fields .le) j) 0))
+rowAt l row j = pick (eqb (l .fields .slots) 8) (bitsAt (l .fields .white) row j) (flipped (flipsChannel l (j % l .fields .ch)) (getD row (highFirst (l .fields .bytes) (l .fields .le) j) 0))
 
 abbrev pub RowWritten : RasterLayout → List ℕ → List ℕ → List ℕ → Type 0
 RowWritten l row old new = new ≡ table (length old) (rowAt l row)

@@ -32,7 +32,7 @@ fn write_row(l: RasterLayout, row: &[u8], out: &mut [u8])
     ensures { λ r. ⌜ RowWritten l (now (row .entry)) (now (out .entry)) (now (out .exit)) ⌝ }
 {
     if l.fields.slots == 8 {
-        packed::pack_row(row, l.fields.white, out);
+        slots::bit_row(row, l.fields.white, out);
     } else {
         plain_row(l, row, out);
     }

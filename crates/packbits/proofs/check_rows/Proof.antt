@@ -4,12 +4,12 @@ use native.Mathlib.Omega.{arith}
 use Prim.Native.Nat.{ℕ, _+_, _-_}
 use mathlib.Core.Path.{_≡_}
 use mathlib.Core.List.{List}
-use lib.ListN.{length, drop}
+use lib.ListN.{drop}
 use denote.Ref.{now}
 use Rattle.answer.specs.Outcome.{Sound}
 use Rattle.answer.proofs.Promised.{refusing}
 use Rattle.packbits.specs.Rows.{rowFaults, rowsFaults, used, RowMeasured}
-use Rattle.packbits.proofs.Packets.{RowsLooked, rows-none, rows-first, rows-on, rows-end, rows-turned, rest-of, measured-refused, measured-done, used-within}
+use Rattle.packbits.proofs.Packets.{RowsLooked, rows-none, rows-first, rows-on, rows-end, rows-turned, rest-of, measured-refused, measured-done}
 use Rattle.packbits.proofs.check_rows.Statement.{statement}
 use Rattle.packbits.proofs.check_rows.Tie as tie
 

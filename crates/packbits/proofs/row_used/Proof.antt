@@ -8,7 +8,7 @@ use lib.ListN.{length}
 use denote.Ref.{now}
 use Rattle.answer.specs.Outcome.{Sound}
 use Rattle.answer.proofs.Promised.{refusing, step-first, step-sound}
-use Rattle.packbits.specs.Rows.{Packet, packetFaults, rowFaults, used}
+use Rattle.packbits.specs.Rows.{Packet, packetFaults, rowFaults}
 use Rattle.packbits.specs.Parts.{begun}
 use Rattle.packbits.proofs.Packets.{Looked, looked-none, looked-first, looked-on, looked-past, looked-end, FitsAt, fits-at, WholeLiteral, whole-literal-is, Nothing, nothing-is}
 use Rattle.packbits.proofs.Onward.{finishing-as}

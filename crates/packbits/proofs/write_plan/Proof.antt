@@ -1,14 +1,14 @@
 -- `packbits::write_plan` meets its promise: it refuses for lists of unequal length, a rule that is broken or want of room, and past that writes. Assumes nothing.
 use borrow.Author.Needs.{needs}
-use borrow.Author.Tests.{eq-eqb, ne-eqb, le-ltb, lt-ltb, ltb-true, not-true, not-false}
+use borrow.Author.Tests.{eq-eqb, ne-eqb, not-false}
 use native.Mathlib.Omega.{arith}
-use Prim.Native.Nat.{ℕ, _≤_}
+use Prim.Native.Nat.{_≤_}
 use mathlib.Core.Path.{_≡_, sym, ap, _∙_}
 use mathlib.Core.Bool.{true, not}
 use mathlib.Core.List.{List}
 use lib.ListN.{length}
 use denote.Ref.{now}
-use Rattle.answer.specs.Outcome.{Fault, Sound, First, here, later, next, none}
+use Rattle.answer.specs.Outcome.{Fault, here, later}
 use Rattle.answer.proofs.Promised.{refuses}
 use Rattle.packbits.specs.Plans.{Planned, planOf, keeps, planBytes, planFaults}
 use Rattle.packbits.specs.Parts.{planLength}

@@ -1,6 +1,5 @@
 -- `packbits::moving::copy` meets its contract: a part of the row is a copy of a part of the input. Assumes nothing.
 use borrow.Author.Needs.{needs}
-use native.Mathlib.Omega.{arith}
 use denote.Ref.{now}
 use Rattle.packbits.proofs.Placing.{part-copied}
 use Rattle.packbits.proofs.moving.copy.Statement.{statement}

@@ -1,5 +1,4 @@
 -- `packbits::plans::check_plan` meets its contract: the first packet that breaks a rule decides, then the sum. Assumes nothing.
-use borrow.Author.Needs.{needs}
 use borrow.Author.Tests.{not-true, not-false}
 use native.Mathlib.Omega.{arith}
 use Prim.Native.Nat.{_+_, _-_, _≤_}

@@ -1,5 +1,4 @@
 -- `packbits::reading::fill_row` meets its contract: each packet goes where the one before it ended. Assumes nothing.
-use borrow.Author.Needs.{needs}
 use native.Mathlib.Omega.{arith}
 use native.Mathlib.Nat.{add-zero}
 use Prim.Native.Nat.{ℕ, _+_, _-_, _≤_, _<_}

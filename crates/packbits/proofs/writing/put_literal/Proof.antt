@@ -1,5 +1,4 @@
 -- `packbits::writing::put_literal` meets its contract: the length less one, and the bytes behind it. Assumes nothing.
-use borrow.Author.Needs.{needs}
 use native.Mathlib.Omega.{arith}
 use Prim.Native.Nat.{_-_}
 use mathlib.Core.Path.{_∙_}

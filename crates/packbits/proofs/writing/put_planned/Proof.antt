@@ -3,7 +3,6 @@ use borrow.Author.Needs.{needs}
 use borrow.Author.Tests.{ne-eqb}
 use native.Mathlib.Omega.{arith}
 use Prim.Native.Nat.{_+_, _-_, _≤_}
-use mathlib.Core.Path.{_≡_}
 use lib.ListN.{length, drop, length-drop, length-set}
 use denote.Ref.{now}
 use Rattle.packbits.proofs.Planning.{Kept, kept-is}

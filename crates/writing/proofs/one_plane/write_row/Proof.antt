@@ -14,7 +14,7 @@ write-row-spec =
     (λ c. search needs)
     (λ c.
     let called = c .before .before in
-    let arm = called .before .before in row-packed (arm .before .before .before .before .pre) (omega (arith, arm .if1 .taken)) (called .pack-row .result) _ (called .pack-row .ensures))
+    let arm = called .before .before in row-packed (arm .before .before .before .before .pre) (omega (arith, arm .if1 .taken)) (called .bit-row .result) _ (called .bit-row .ensures))
     (λ c. search needs)
     (λ c.
     let called = c .before .before in
