@@ -12,12 +12,14 @@ use Rattle.directory.specs.declared.strips.Strips.{Strips}
 use Rattle.entries.specs.Entries.{directory, openFaults}
 use Rattle.entries.specs.declared.Directory.{Directory}
 use Rattle.laws.proofs.Faults.{answered}
+use Rattle.laws.proofs.Joined.{length-joined}
 use Rattle.laws.proofs.Turns.{sum-again, sum-same, sum-times, turn-sound}
-use Rattle.laws.specs.Turns.{sum}
+use Rattle.laws.specs.Turns.{endToEnd, sum}
 use Rattle.layout.proofs.Accepted.{Accepted, accepted, up-to-eight}
 use Rattle.layout.specs.Layout.{encodedWidth, planeChannels, planeLength, planes, scratchLength}
 use Rattle.layout.specs.declared.Fields.{Fields}
-use Rattle.packbits.specs.Rows.{packetFaults, rowFaults, rowsFaults}
+use Rattle.packbits.proofs.Packets.{rows-filled}
+use Rattle.packbits.specs.Rows.{packetFaults, rowFaults, rowsBytes, rowsFaults}
 use Rattle.tags.proofs.Reading.{StripsSaid, strips-said}
 use Rattle.tags.specs.Tags.{PACKBITS, fieldsBy, isPalette, shapeOf, splitOf, stripsOf, stripsPerPlane, tagFaults, tagsBy, tagsOf}
 use borrow.Author.Tests.{eq-eqb, eqb-false, eqb-true, le-ltb, lt-leb, lt-ltb, ne-eqb, not-false}
@@ -157,6 +159,13 @@ module _ (file : List ℕ) (page : ℕ) (p : Page) (taken : unless (readFaults f
   strip-rows-sound packed k s h q =
       let s-is : s ≡ partOf file (stripPart file strips k) = q ∙ ap (cut file) (every-strip file page p taken k h) in
       rw s-is (packed-rows file strips k (strip-sound file page p taken k h) (packed-is file page p taken ∙ eq-eqb (p .compression) PACKBITS packed))
+
+  -- and its rows, unpacked, are with those of all other strips as long as the planes
+  pub unpacked-length : p .compression ≡ PACKBITS → (s : ℕ → List ℕ) → ((k : ℕ) → k < p .strips → StripCut file page k (s k)) → length (endToEnd (p .strips) (λ k. rowsBytes (s k) (stripRows (strips .rows) (strips .each) k) (strips .row))) ≡ p .layout .«scratch_len»
+  unpacked-length packed s cuts =
+      length-joined (p .strips) (λ k. rowsBytes (s k) (stripRows (strips .rows) (strips .each) k) (strips .row))
+      ∙ sum-same (p .strips) _ (λ k. stripRows (strips .rows) (strips .each) k * strips .row) (λ k h. rows-filled (s k) (stripRows (strips .rows) (strips .each) k) (strips .row) (strip-rows-sound packed k (s k) h (cuts k h)))
+      ∙ rows-add-up
 
 -- a strip that is there has some rows, and its rows some bytes
 rows-left : (rows each per q : ℕ) → 0 < rows → 0 < each → rows ≤ per * each → per * each ≤ rows + (each - 1) → (0 < per → q < per) → 0 < rows - q * each

@@ -4,7 +4,7 @@ use mathlib.Core.Path.{_≡_, sym, ap, _∙_}
 use mathlib.Core.Bool.{true}
 use mathlib.Core.List.{List, []}
 use native.Mathlib.Decide.{ℕ-discrete}
-use native.Mathlib.Nat.{add-zero, add-suc}
+use native.Mathlib.Nat.{add-zero}
 use native.Mathlib.Numerals.{add-one}
 use native.Mathlib.Omega.{arith}
 use borrow.Author.Tests.{eqb-true, eq-eqb, le-leb, not-false}
@@ -12,7 +12,7 @@ use lib.ListN.{length, getD, drop, length-drop}
 use lib.Seq.{getD-drop, drop-drop}
 use lib.Dec.{eqb}
 use Rattle.answer.proofs.Promised.{done-sound, sound-done, sound-here, sound-rest}
-use Rattle.laws.specs.Turns.{sum}
+use Rattle.laws.proofs.Joined.{sum-within}
 use Rattle.laws.proofs.Turns.{every-one, every-all}
 use Rattle.packbits.specs.declared.Packed.{Packed}
 use Rattle.packbits.specs.declared.Packed.the-variants as Packed-is
@@ -21,11 +21,6 @@ use Rattle.packbits.proofs.Determined.{length-once}
 use Rattle.packbits.proofs.Onward.{and-left, used-up}
 use Rattle.packbits.proofs.Planning.{kept-is, planned-at, plan-from, plan-next, plan-end, Checked, checked-none, checked-on, checked-end, next-kept}
 use Rattle.packbits.proofs.Putting.{plan-long, plan-sound}
-
--- a sum grows
-sum-below : (f : ℕ → ℕ) (k m : ℕ) → sum k f ≤ sum (k + m) f
-sum-below f k zero = rw (add-zero k) (omega arith)
-sum-below f k (suc m) = rw (add-suc k m) (omega (arith, sum-below f k m))
 
 module _ (row kinds lengths : List ℕ) where
   -- a packet's rule, and the test of it
@@ -59,7 +54,7 @@ module _ (row kinds lengths : List ℕ) where
       let start = startOf lengths k in
       let n = getD lengths k 0 in
       let more : suc k + m ≡ length kinds = omega arith in
-      let within : start + n ≤ length row = rw (more, r .adds-up) at (sum-below (λ j. getD lengths j 0) (suc k) m) in
+      let within : start + n ≤ length row = rw (r .adds-up) at (sum-within (λ j. getD lengths j 0) k (length kinds) (omega arith)) in
       let first = rule-kept start k (omega arith) (r .each k (omega arith)) in
       ap (keeps (drop start row)) (plan-next kinds lengths k (omega arith) (r .paired)) ∙ rw (first, drop-drop n start row, add-one k) (keeps-from r m (suc k) more)
 

@@ -1,10 +1,10 @@
 -- A row's packets one by one: the next, its faults and its bytes, and what a look at the headers and a filled row have behind them. Assumes nothing.
-use Prim.Native.Nat.{ℕ, zero, suc, _+_, _-_, _≤_, _<_}
+use Prim.Native.Nat.{ℕ, zero, suc, _+_, _-_, _*_, _≤_, _<_}
 use mathlib.Core.Path.{_≡_, refl, sym, ap, _∙_}
 use mathlib.Core.Bool.{Bool, true, false, not, _&&_}
 use mathlib.Core.List.{List, [], _∷_, _++_}
 use native.Mathlib.Omega.{arith}
-use native.Mathlib.Nat.{sub-zero, add-zero, zero-add, add-assoc}
+use native.Mathlib.Nat.{suc-mul, zero-mul, add-comm, sub-zero, add-zero, zero-add, add-assoc}
 use borrow.Author.Tests.{ltb-true, ltb-false, leb-true, eqb-true, eqb-false, eq-eqb, ne-eqb, lt-ltb, le-ltb}
 use lib.ListN.{length, getD, take, drop, length-drop, length-append}
 use lib.Seq.{getD-drop, drop-drop, length-take-le, take-all}
@@ -19,7 +19,7 @@ use Rattle.answer.specs.Table.{table}
 use Rattle.answer.proofs.Filling.{length-table}
 use Rattle.packbits.specs.declared.Unpacked.{Unpacked}
 use Rattle.packbits.specs.declared.Unpacked.the-variants as Unpacked-is
-use Rattle.packbits.specs.Rows.{fills, takes, Packet, header, behind, packetsUpto, packets, packetFaults, packetBytes, faultsOf, bytesOf, takenBy, rowFaults, rowBytes, used, rowsFaults, usedOutcome, RowMeasured}
+use Rattle.packbits.specs.Rows.{fills, takes, Packet, header, behind, packetsUpto, packets, packetFaults, packetBytes, faultsOf, bytesOf, takenBy, rowFaults, rowBytes, used, rowsFaults, rowsBytes, usedOutcome, RowMeasured}
 use Rattle.packbits.specs.Parts.{begun, wholeLiteral, doesNothing, bytesAt, Placed}
 use Rattle.packbits.proofs.Onward.{and-left, and-right, Past, past-none, past-on, past-first, past-sound, past-step, used-up, Upto, upto-none, upto-on, upto-end}
 
@@ -206,6 +206,14 @@ used-within packed n s = sized (suc (length packed)) (record { input = packed; l
 
 pub row-filled : (packed : List ℕ) (n : ℕ) → Sound (rowFaults packed n) → length (rowBytes packed n) ≡ n
 row-filled packed n s = sized (suc (length packed)) (record { input = packed; left = n }) s .filled (omega arith)
+
+-- rows without a fault hold as many bytes as they have together
+pub rows-filled : (packed : List ℕ) (rows n : ℕ) → Sound (rowsFaults packed rows n) → length (rowsBytes packed rows n) ≡ rows * n
+rows-filled packed zero n s = sym (zero-mul n)
+rows-filled packed (suc rows) n s =
+    let rest = drop (used packed n) packed in
+    let on = rows-filled rest rows n (sound-back (rowFaults packed n) _ s) in
+    length-append (rowBytes packed n) (rowsBytes rest rows n) ∙ ap (λ (k : ℕ). k + length (rowsBytes rest rows n)) (row-filled packed n (sound-front (rowFaults packed n) _ s)) ∙ ap (λ (k : ℕ). n + k) on ∙ sym (suc-mul rows n ∙ add-comm (rows * n) n)
 
 -- rows up to one of them
 pub record RowsLooked (packed : List ℕ) (rows n at k : ℕ) : Type 0 where

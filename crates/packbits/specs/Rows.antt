@@ -82,6 +82,11 @@ abbrev pub rowsFaults : List ℕ → ℕ → ℕ → List Fault
 rowsFaults packed zero n = invalid (not (eqb (length packed) 0)) ∷ []
 rowsFaults packed (suc rows) n = rowFaults packed n ++ rowsFaults (drop (used packed n) packed) rows n
 
+-- what they hold, unpacked one after another
+abbrev pub rowsBytes : List ℕ → ℕ → ℕ → List ℕ
+rowsBytes packed zero n = []
+rowsBytes packed (suc rows) n = rowBytes packed n ++ rowsBytes (drop (used packed n) packed) rows n
+
 -- what the functions promise
 abbrev pub usedOutcome : Unpacked → Outcome ℕ
 usedOutcome (Unpacked-is.Used n) = done n
