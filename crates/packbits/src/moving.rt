@@ -1,5 +1,5 @@
 // Bytes copied or repeated from a place of a buffer on. What is behind them is of no account: the packets that follow write over it. So where there is
-// room whole blocks are moved, of a length that the compiler knows.
+// room whole blocks are moved, copies of a multiple of 32 bytes, repeats of a constant length: of these the compiler makes vectors.
 ghost use mathlib.Core.Path.{_≡_};
 ghost use Prim.Native.Nat.{_+_, _≤_};
 ghost use lib.ListN.{length};
@@ -15,7 +15,7 @@ fn copy(source: &[u8], begin: usize, n: usize, out: &mut [u8], to: usize)
     transport::commit_uninit(&source[begin..end], &mut out[to..last]);
 }
 
-// n bytes of the source, at most 128.
+// n bytes of the source.
 pub(crate) fn copy_bytes(source: &[u8], begin: usize, n: usize, out: &mut [u8], to: usize)
     requires { ⌜ (n ≤ 128) × CopyFits (now source) begin n (now out) to ⌝ }
     ensures { λ r. ⌜ Placed to (bytesAt (now (source .entry)) begin n) (now (out .entry)) (now (out .exit)) ⌝ }
@@ -46,7 +46,7 @@ fn repeat(b: u8, n: usize, out: &mut [u8], to: usize)
     fill(b, &mut out[to..last]);
 }
 
-// A byte n times, at most 128.
+// A byte n times.
 pub(crate) fn repeat_byte(b: u8, n: usize, out: &mut [u8], to: usize)
     requires { ⌜ to + n ≤ length (now out) ⌝ }
     ensures { λ r. ⌜ Placed to (table n (λ k. b)) (now (out .entry)) (now (out .exit)) ⌝ }
