@@ -4,14 +4,14 @@ use native.Mathlib.Nat.{zero-add}
 use native.Mathlib.Omega.{arith}
 use mathlib.Core.Path.{_≡_, refl, sym, ap, _∙_}
 use mathlib.Core.List.{List, _++_}
-use borrow.Author.Tests.{le-ltb}
 use lib.ListN.{length, getD, take, drop, length-append, length-take, List·getD-append}
 use Rattle.answer.specs.declared.Done.{Done}
-use Rattle.answer.specs.Outcome.{Sound, Promise, unless, done, next, none}
+use Rattle.answer.specs.Outcome.{Sound, Promise, unless, done}
 use Rattle.answer.specs.Table.{table, filled}
-use Rattle.answer.proofs.Filling.{part, length-part, part-filled, stores-filled, filled-all, table-same, table-self}
-use Rattle.answer.proofs.Promised.{finished, finishes}
-use Rattle.transport.specs.Moved.{Committed, commitFaults}
+use Rattle.answer.proofs.Filling.{part, length-part, part-filled, stores-filled, table-same, table-self}
+use Rattle.answer.proofs.Promised.{finishes}
+use Rattle.transport.specs.Moved.{Committed}
+use Rattle.transport.proofs.Copied.{copied}
 use Rattle.layout.specs.declared.RasterLayout.{RasterLayout}
 use Rattle.layout.specs.Layout.{scratchLength}
 use Rattle.files.specs.declared.plan.Plan.{Plan}
@@ -63,9 +63,8 @@ module _ {l : RasterLayout} {p : Plan} {planes old : List ℕ} (r : Ready l p pl
         let same : part 0 (l .«scratch_len») planes ≡ source = ap (λ (n : ℕ). take n planes) whole in
         let some : length source ≡ p .length - p .planes = simp length-take (omega (arith, size, r .all, scratch)) in
         let room : length target ≡ p .length - p .planes = length-part (p .planes) (p .length) mid ends mid-room in
-        let copied : Committed source target answer new = rw same at moved in
-        finished (commitFaults source target) tt (length source) (λ k. getD source k 0) target new (next (le-ltb (length target) (length source) (omega (arith, some, room))) none) copied
-        ∙ filled-all (length source) (λ k. getD source k 0) target (omega (arith, some, room))
+        copied source target new answer (rw same at moved) (some ∙ sym room)
+        ∙ sym (table-self source)
         ∙ ap (λ (n : ℕ). table n (λ k. getD source k 0)) some
         ∙ table-same (p .length - p .planes) _ _ (λ k h. sym (holds-second before source there .bytes k (omega (arith, some))))
 

@@ -45,6 +45,12 @@ both {a} {b} {P} {Q} s r = record { tells = by a refl; told = λ p. rw (s .told 
     by true e t = (s .tells e, r .tells t)
     by false e t = clash t refl
 
+pub and-left : (a b : Bool) → (a && b) ≡ true → a ≡ true
+and-left a b e = both (up a) (up b) .tells e .0
+
+pub and-right : (a b : Bool) → (a && b) ≡ true → b ≡ true
+and-right a b e = both (up a) (up b) .tells e .1
+
 pub either : {a b : Bool} {P Q : Type 0} → Says a P → Says b Q → Says (a || b) (P ⊎ Q)
 either {a} {b} {P} {Q} s r = record { tells = by a refl; told = back }
   where

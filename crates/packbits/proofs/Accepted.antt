@@ -4,7 +4,6 @@ use mathlib.Core.Path.{_≡_, sym, ap, _∙_}
 use mathlib.Core.Bool.{true}
 use mathlib.Core.List.{List, []}
 use native.Mathlib.Decide.{ℕ-discrete}
-use native.Mathlib.Nat.{add-zero}
 use native.Mathlib.Numerals.{add-one}
 use native.Mathlib.Omega.{arith}
 use borrow.Author.Tests.{eqb-true, eq-eqb, le-leb, not-false}
@@ -14,11 +13,12 @@ use lib.Dec.{eqb}
 use Rattle.answer.proofs.Promised.{done-sound, sound-done, sound-here, sound-rest}
 use Rattle.laws.proofs.Joined.{sum-within}
 use Rattle.laws.proofs.Turns.{every-one, every-all}
+use Rattle.laws.proofs.Says.{and-left}
 use Rattle.packbits.specs.declared.Packed.{Packed}
 use Rattle.packbits.specs.declared.Packed.the-variants as Packed-is
 use Rattle.packbits.specs.Plans.{planOf, alike, literalRule, repeatRule, kept, keeps, startOf, PacketRule, literal, repeat, PlanRules, planBytes, planFaults, PlanWritten}
 use Rattle.packbits.proofs.Determined.{length-once}
-use Rattle.packbits.proofs.Onward.{and-left, used-up}
+use Rattle.packbits.proofs.Onward.{first-at, used-up}
 use Rattle.packbits.proofs.Planning.{kept-is, planned-at, plan-from, plan-next, plan-end, Checked, checked-none, checked-on, checked-end, next-kept}
 use Rattle.packbits.proofs.Putting.{plan-long, plan-sound}
 
@@ -31,7 +31,7 @@ module _ (row kinds lengths : List ℕ) where
       rw (length-drop start row, le-leb n (length row - start) inside, zero-kind, le-leb 1 n some, le-leb n 128 few)
   rule-kept start k inside (repeat one-kind some few same) =
       let n = getD lengths k 0 in
-      let all : alike n (drop start row) ≡ true = every-all n _ (λ j h. eq-eqb _ _ (getD-drop start row j 0 ∙ same j h ∙ ap (λ (i : ℕ). getD row i 0) (sym (add-zero start)) ∙ sym (getD-drop start row 0 0))) in
+      let all : alike n (drop start row) ≡ true = every-all n _ (λ j h. eq-eqb _ _ (getD-drop start row j 0 ∙ same j h ∙ sym (first-at row start))) in
       rw (length-drop start row, le-leb n (length row - start) inside, one-kind, le-leb 2 n some, le-leb n 128 few, all)
 
   kept-rule : (start k : ℕ) → kept (drop start row) (planned-at kinds lengths k) ≡ true → PacketRule row start (getD kinds k 0) (getD lengths k 0)
@@ -42,7 +42,7 @@ module _ (row kinds lengths : List ℕ) where
       by (no o) =
           let fit = kept-is (drop start row) (planned-at kinds lengths k) e in
           let rule = fit .repeats o in
-          repeat (rule .0) (rule .1 .0) (fit .few) (λ j h. sym (getD-drop start row j 0) ∙ eqb-true _ _ (every-one (getD lengths k 0) _ (rule .1 .1) j h) ∙ getD-drop start row 0 0 ∙ ap (λ (i : ℕ). getD row i 0) (add-zero start))
+          repeat (rule .0) (rule .1 .0) (fit .few) (λ j h. sym (getD-drop start row j 0) ∙ eqb-true _ _ (every-one (getD lengths k 0) _ (rule .1 .1) j h) ∙ first-at row start)
 
   -- rules in plain words are kept, from any packet on
   keeps-from : PlanRules row kinds lengths → (m k : ℕ) → k + m ≡ length kinds → keeps (drop (startOf lengths k) row) (plan-from kinds lengths k) ≡ true

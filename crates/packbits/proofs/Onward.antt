@@ -1,52 +1,22 @@
--- What a loop over packets has behind it: faults that were not found, and bytes that were put one after another. Assumes nothing.
+-- What a loop over packets has behind it: bytes that were put one after another, and how a promise is met by them. Assumes nothing.
 use Prim.Native.Nat.{ℕ, suc, _+_, _-_, _≤_, _<_}
 use mathlib.Core.Path.{_≡_, refl, sym, ap, _∙_}
-use mathlib.Core.Bool.{Bool, true, _&&_}
 use mathlib.Core.List.{List, [], _∷_, _++_, append-assoc, append-nil}
-use native.Mathlib.Nat.{zero-add, add-zero, sub-zero}
+use native.Mathlib.Nat.{zero-add, add-zero}
 use native.Mathlib.Numerals.{add-one}
 use native.Mathlib.Omega.{arith}
 use native.Mathlib.Decide.{ℕ-discrete}
-use borrow.Author.Tests.{le-ltb, eq-eqb, ne-eqb}
+use borrow.Author.Tests.{eq-eqb, ne-eqb}
 use lib.ListN.{length, getD, take, drop, set, length-set, length-append, length-drop, drop-of-length-le}
 use lib.Dec.{eqb}
-use lib.Seq.{drop-drop, length-take-le, take-all, take-suc-set, take-append-add, take-append-le}
-use Rattle.answer.specs.declared.Done.{Done}
-use Rattle.answer.specs.Outcome.{Fault, Sound, none, next, First, Outcome, done, unless, after, Promise, Step}
-use Rattle.answer.proofs.Promised.{sound-then, sound-more, sound-skip, finishing, finished, sound-done}
-use Rattle.answer.proofs.Filling.{table-self}
-use Rattle.laws.proofs.Says.{both, up}
-use Rattle.transport.specs.Moved.{Committed, commitFaults}
+use lib.Seq.{getD-drop, drop-drop, length-take-le, take-all, take-suc-set, take-append-add, take-append-le}
+use Rattle.answer.specs.Outcome.{Fault, Sound, Outcome, done, unless, after, Promise}
+use Rattle.answer.proofs.Promised.{finishing, sound-done}
 use Rattle.packbits.specs.Parts.{putAt, Placed}
 
--- both of two tests
-pub and-left : (a b : Bool) → (a && b) ≡ true → a ≡ true
-and-left a b e = both (up a) (up b) .tells e .0
-
-pub and-right : (a b : Bool) → (a && b) ≡ true → b ≡ true
-and-right a b e = both (up a) (up b) .tells e .1
-
--- of a list of faults the rest is still to be looked for, and none was found before it
-pub record Past (whole rest : List Fault) : Type 0 where
-  pub front : List Fault
-  pub parted : whole ≡ front ++ rest
-  pub sound : Sound front
-
-pub past-none : (whole : List Fault) → Past whole whole
-past-none whole = record { front = []; parted = refl; sound = none }
-
-module _ {whole rest : List Fault} where
-  pub past-on : (fs : List Fault) → Past whole (fs ++ rest) → Sound fs → Past whole rest
-  past-on fs p s = record { front = p .front ++ fs; parted = p .parted ∙ sym (append-assoc (p .front) fs rest); sound = sound-more (p .sound) s }
-
-  pub past-first : {n : ℕ} → Past whole rest → First rest n → First whole n
-  past-first p f = rw (p .parted) (sound-then (p .sound) f)
-
-  pub past-step : {a : Done} → Past whole rest → Step rest a → Step whole a
-  past-step p s = record { passed = s .passed ∙ sym (rw (p .parted) (sound-skip rest tt (p .sound))) }
-
-  pub past-sound : Past whole rest → Sound rest → Sound whole
-  past-sound p s = rw (p .parted) (sound-more (p .sound) s)
+-- the first of the rest of a list
+pub first-at : (l : List ℕ) (at : ℕ) → getD (drop at l) 0 0 ≡ getD l at 0
+first-at l at = getD-drop at l 0 0 ∙ ap (λ (n : ℕ). getD l n 0) (add-zero at)
 
 -- nothing is left of a list past its end
 pub used-up : (l : List ℕ) (at : ℕ) → at ≤ length l → eqb (length (drop at l)) 0 ≡ eqb at (length l)
@@ -104,18 +74,6 @@ pub put-part : (row : List ℕ) (from to : ℕ) {new bytes : List ℕ} → new �
 put-part row from to {new} {bytes} e h long =
     ap (λ (l : List ℕ). take from row ++ (l ++ drop (to - from) (drop from row))) e
     ∙ ap (λ (l : List ℕ). take from row ++ (bytes ++ l)) (drop-drop (to - from) from row ∙ ap (λ (n : ℕ). drop (from + n) row) (sym long))
-
--- the front of a buffer as a part of it
-pub front-length : (n : ℕ) (out : List ℕ) → n ≤ length out → length (take (n - 0) (drop 0 out)) ≡ n
-front-length n out h = rw (sub-zero n) (length-take-le n out h)
-
--- a copy that fills all of its buffer
-pub copied : (source old new : List ℕ) (a : Done) → Committed source old a new → length source ≡ length old → new ≡ source
-copied source old new a p long =
-    finished (commitFaults source old) tt (length source) (λ k. getD source k 0) old new (next (le-ltb (length old) (length source) (omega arith)) none) p
-    ∙ ap (λ (l : List ℕ). l ++ drop (length source) old) (table-self source)
-    ∙ ap (λ (l : List ℕ). source ++ l) (drop-of-length-le old {i = length source} (omega arith))
-    ∙ append-nil source
 
 -- n bytes placed, as the front of what was put there; and none
 pub placed-by : (to n : ℕ) (source : List ℕ) {bytes row new : List ℕ} → take n source ≡ bytes → n ≤ length source → to + length source ≤ length row → new ≡ putAt to source row → Placed to bytes row new

@@ -11,17 +11,16 @@ use lib.Seq.{getD-drop, drop-drop, length-take-le, take-all}
 use lib.Dec.{eqb, ltb, leb}
 use Rattle.answer.specs.declared.Done.{Done}
 use Rattle.answer.specs.declared.Done.the-variants as Done-is
-use Rattle.answer.specs.declared.Refusal.{Refusal}
 use Rattle.answer.specs.declared.Refusal.the-variants.{Invalid, Truncated}
-use Rattle.answer.specs.Outcome.{Fault, Sound, none, next, First, here, done, unless, number, pick, truncated, faultOf, Step, InOrder}
-use Rattle.answer.proofs.Promised.{refusing, refused-told, done-sound, done-value, first-more, sound-front, sound-back, sound-here, sound-rest}
+use Rattle.answer.specs.Outcome.{Fault, Sound, none, next, First, here, pick, truncated, faultOf, Step, InOrder}
+use Rattle.answer.proofs.Promised.{refusing, first-more, sound-front, sound-back, sound-here, sound-rest}
 use Rattle.answer.specs.Table.{table}
 use Rattle.answer.proofs.Filling.{length-table}
-use Rattle.packbits.specs.declared.Unpacked.{Unpacked}
-use Rattle.packbits.specs.declared.Unpacked.the-variants as Unpacked-is
-use Rattle.packbits.specs.Rows.{fills, takes, Packet, header, behind, packetsUpto, packets, packetFaults, packetBytes, faultsOf, bytesOf, takenBy, rowFaults, rowBytes, used, rowsFaults, rowsBytes, usedOutcome, RowMeasured}
+use Rattle.laws.proofs.Faults.{Past, past-none, past-more, past-step}
+use Rattle.laws.proofs.Says.{and-left, and-right}
+use Rattle.packbits.specs.Rows.{fills, takes, Packet, header, behind, packetsUpto, packets, packetFaults, packetBytes, faultsOf, bytesOf, takenBy, rowFaults, rowBytes, used, rowsFaults, rowsBytes}
 use Rattle.packbits.specs.Parts.{begun, wholeLiteral, doesNothing, bytesAt, Placed}
-use Rattle.packbits.proofs.Onward.{and-left, and-right, Past, past-none, past-on, past-first, past-sound, past-step, used-up, Upto, upto-none, upto-on, upto-end}
+use Rattle.packbits.proofs.Onward.{first-at, used-up, Upto, upto-none, upto-on, upto-end}
 
 -- a packet takes a byte or more
 pub takes-some : (h : ℕ) → 0 < takes h
@@ -97,7 +96,7 @@ goes-on p more there =
 
 -- the packet behind the one at a place
 pub header-at : (packed : List ℕ) (at left : ℕ) → header (begun packed at left) ≡ getD packed at 0
-header-at packed at left = getD-drop at packed 0 0 ∙ ap (λ (n : ℕ). getD packed n 0) (add-zero at)
+header-at packed at left = first-at packed at
 
 behind-at : (packed : List ℕ) (at left : ℕ) → let h = getD packed at 0 in behind (begun packed at left) ≡ begun packed (at + takes h) (left - fills h)
 behind-at packed at left =
@@ -150,7 +149,7 @@ looked-none packed n = record { inside = omega arith; past = past-none _; taken 
 
 module _ {packed : List ℕ} {n at left : ℕ} (l : Looked packed n at left) where
   pub looked-first : {r : ℕ} → 0 < left → First (packetFaults (begun packed at left)) r → First (rowFaults packed n) r
-  looked-first more f = past-first (l .past) (rw (begins (begun packed at left) more) (first-more _ f))
+  looked-first more f = l .past .first (rw (begins (begun packed at left) more) (first-more _ f))
 
   pub looked-on : 0 < left → Sound (packetFaults (begun packed at left)) → let h = getD packed at 0 in Looked packed n (at + takes h) (left - fills h)
   looked-on more s =
@@ -159,14 +158,14 @@ module _ {packed : List ℕ} {n at left : ℕ} (l : Looked packed n at left) whe
       let next = next-at packed at left more s in
       record {
         inside = fits-at packed at left s .whole;
-        past = past-on (packetFaults p) (rw next at (l .past)) s;
+        past = past-more (packetFaults p) (rw next at (l .past)) s;
         taken = l .taken ∙ ap (λ (ps : List Packet). at + takenBy ps) next ∙ ap (λ (k : ℕ). at + (takes k + takenBy (packets (begun packed (at + takes h) (left - fills h))))) (header-at packed at left) ∙ sym (add-assoc at (takes h) _);
       }
 
 pub looked-end : {packed : List ℕ} {n at left : ℕ} → Looked packed n at left → left ≡ 0 → Sound (rowFaults packed n) × (used packed n ≡ at)
 looked-end {packed} {n} {at} {left} l e =
     let full : packets (begun packed at left) ≡ [] = rw e refl in
-    (past-sound (l .past) (rw full none), l .taken ∙ ap (λ (ps : List Packet). at + takenBy ps) full ∙ add-zero at)
+    (l .past .sound (rw full none), l .taken ∙ ap (λ (ps : List Packet). at + takenBy ps) full ∙ add-zero at)
 
 -- packets without a fault: what they take is there, and what they fill is the row
 copied-length : (h : ℕ) (input : List ℕ) (b : Bool) → ltb h 128 ≡ b → takes h ≤ length input → length (pick b (take (fills h) (drop 1 input)) (table (fills h) (λ k. getD input 1 0))) ≡ fills h
@@ -229,20 +228,20 @@ module _ {packed : List ℕ} {rows n at k : ℕ} (l : RowsLooked packed rows n a
   one-more = omega arith
 
   pub rows-first : {r : ℕ} → First (rowFaults (drop at packed) n) r → First (rowsFaults packed rows n) r
-  rows-first f = past-first (l .past) (rw one-more (first-more _ f))
+  rows-first f = l .past .first (rw one-more (first-more _ f))
 
   pub rows-on : Sound (rowFaults (drop at packed) n) → RowsLooked packed rows n (at + used (drop at packed) n) (k + 1)
   rows-on s =
       record {
         inside = omega (arith, used-within (drop at packed) n s, length-drop at packed, l .inside);
         within = omega arith;
-        past = rw (← drop-drop (used (drop at packed) n) at packed) (past-on (rowFaults (drop at packed) n) (rw one-more at (l .past)) s);
+        past = rw (← drop-drop (used (drop at packed) n) at packed) (past-more (rowFaults (drop at packed) n) (rw one-more at (l .past)) s);
       }
 
 -- after the last row, what is left over
 pub rows-end : {packed : List ℕ} {rows n at k : ℕ} {a : Done} → RowsLooked packed rows n at k → rows ≤ k → Step (faultOf (not (eqb at (length packed))) Invalid ∷ []) a → Step (rowsFaults packed rows n) a
-rows-end {packed} {rows} {n} {at} {k} l end s =
-    let none-left : rows - k ≡ 0 = omega arith in past-step (l .past) (rw (none-left, used-up packed at (l .inside)) s)
+rows-end {packed} {rows} {n} {at} {k} {a} l end s =
+    let none-left : rows - k ≡ 0 = omega arith in past-step a (l .past) (rw (none-left, used-up packed at (l .inside)) s)
 
 -- rows of no bytes take nothing
 rows-empty : (packed : List ℕ) (rows : ℕ) → rowsFaults packed 0 0 ≡ rowsFaults packed rows 0
@@ -259,15 +258,6 @@ rows-turned packed rows n e = ap (λ (k : ℕ). rowsFaults packed k n) e ∙ by 
 -- the rest of a list as a part of it
 pub rest-of : (l : List ℕ) (at : ℕ) → take (length l - at) (drop at l) ≡ drop at l
 rest-of l at = take-all (length l - at) (drop at l) (rw (length-drop at l) (omega arith))
-
--- what `row_used` says
-pub measured-refused : (packed : List ℕ) (n : ℕ) {a : Unpacked} {k : Refusal} → RowMeasured packed n a → a ≡ Unpacked-is.Refused k → First (rowFaults packed n) (number k)
-measured-refused packed n {a} {k} m e = refused-told (rowFaults packed n) (used packed n) k (sym (ap usedOutcome e) ∙ m)
-
-pub measured-done : (packed : List ℕ) (n : ℕ) {a : Unpacked} {m : ℕ} → RowMeasured packed n a → a ≡ Unpacked-is.Used m → Sound (rowFaults packed n) × (used packed n ≡ m)
-measured-done packed n {a} {m} p e =
-    let is : unless (rowFaults packed n) (used packed n) ≡ done m = sym p ∙ ap usedOutcome e in
-    (done-sound (rowFaults packed n) (used packed n) m is, done-value (rowFaults packed n) (used packed n) m is)
 
 -- a packet without a fault, from what was seen of it
 pub sound-packet : (p : Packet) → 0 < length (p .input) → fills (header p) ≤ p .left → takes (header p) ≤ length (p .input) → Sound (packetFaults p)

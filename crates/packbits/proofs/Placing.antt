@@ -13,8 +13,10 @@ use Rattle.answer.specs.Table.{table}
 use Rattle.answer.proofs.Filling.{length-table, table-at, table-same}
 use Rattle.laws.proofs.Lists.{own-front}
 use Rattle.transport.specs.Moved.{Committed}
+use Rattle.transport.proofs.Copied.{copied}
+use Rattle.laws.proofs.Says.{and-left, and-right}
 use Rattle.packbits.specs.Parts.{putAt, bytesAt, Placed, CopyFits}
-use Rattle.packbits.proofs.Onward.{and-left, and-right, put-part, copied, placed-by}
+use Rattle.packbits.proofs.Onward.{put-part, placed-by}
 
 -- a part of a buffer: copied, or filled with a byte
 pub part-copied : (packed row : List ℕ) (begin n from : ℕ) → CopyFits packed begin n row from → (new : List ℕ) (a : Done) → Committed (take (begin + n - begin) (drop begin packed)) (take (from + n - from) (drop from row)) a new → take from row ++ (new ++ drop (from + n - from) (drop from row)) ≡ putAt from (bytesAt packed begin n) row

@@ -6,19 +6,16 @@ use mathlib.Core.List.{List, [], _∷_}
 use native.Mathlib.Omega.{arith}
 use native.Mathlib.Nat.{add-zero, zero-add, add-assoc}
 use native.Mathlib.Numerals.{add-one}
-use borrow.Author.Tests.{ltb-false, leb-true, le-leb, lt-leb, eqb-true, eq-eqb, ne-eqb}
+use borrow.Author.Tests.{leb-true, le-leb, lt-leb, eqb-true, eq-eqb, ne-eqb}
 use lib.ListN.{length, getD, take, drop, length-drop, drop-of-length-le}
 use lib.Seq.{drop-drop, drop-cons, length-take-le, getD-take}
 use lib.Dec.{eqb, leb}
-use Rattle.answer.specs.declared.Refusal.{Refusal}
-use Rattle.answer.specs.Outcome.{First, done, unless, number, pick}
-use Rattle.answer.proofs.Promised.{refused-told, done-sound, done-value, sound-here}
+use Rattle.answer.specs.Outcome.{pick}
 use Rattle.laws.proofs.Turns.{every-same}
-use Rattle.packbits.specs.declared.Packed.{Packed}
-use Rattle.packbits.specs.declared.Packed.the-variants as Packed-is
-use Rattle.packbits.specs.Plans.{packedOutcome, Planned, planOf, alike, literalRule, repeatRule, kept, keeps}
-use Rattle.packbits.specs.Parts.{packetLength, planLength, roomFaults}
-use Rattle.packbits.proofs.Onward.{and-left, and-right, used-up}
+use Rattle.laws.proofs.Says.{and-left, and-right}
+use Rattle.packbits.specs.Plans.{Planned, planOf, alike, literalRule, repeatRule, kept, keeps}
+use Rattle.packbits.specs.Parts.{packetLength, planLength}
+use Rattle.packbits.proofs.Onward.{used-up}
 
 -- bytes that are alike, in a part of a list
 part-alike : (n : ℕ) (l : List ℕ) → n ≤ length l → alike (length (take n l)) (take n l) ≡ alike n l
@@ -138,12 +135,3 @@ module _ (kinds lengths : List ℕ) where
 
       pub counted-on : {m : ℕ} → m ≡ packetLength (planned-at k) → n + m ≤ room → Counted room (n + m) (k + 1)
       counted-on e h = record { within = h; rest = rw e counted-next }
-
--- what `plan_length` says
-pub length-refused : (room : ℕ) (plan : List Planned) {a : Packed} {k : Refusal} → packedOutcome a ≡ unless (roomFaults room plan) (planLength plan) → a ≡ Packed-is.Refused k → First (roomFaults room plan) (number k)
-length-refused room plan {a} {k} p e = refused-told (roomFaults room plan) (planLength plan) k (sym (ap packedOutcome e) ∙ p)
-
-pub length-done : (room : ℕ) (plan : List Planned) {a : Packed} {n : ℕ} → packedOutcome a ≡ unless (roomFaults room plan) (planLength plan) → a ≡ Packed-is.Length n → (planLength plan ≤ room) × (planLength plan ≡ n)
-length-done room plan {a} {n} p e =
-    let is : unless (roomFaults room plan) (planLength plan) ≡ done n = sym p ∙ ap packedOutcome e in
-    (ltb-false room (planLength plan) (sound-here (done-sound (roomFaults room plan) (planLength plan) n is)), done-value (roomFaults room plan) (planLength plan) n is)

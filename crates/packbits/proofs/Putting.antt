@@ -4,18 +4,18 @@ use mathlib.Core.Path.{_≡_, refl, sym, ap, _∙_}
 use mathlib.Core.Bool.{Bool, true, false, _&&_}
 use mathlib.Core.List.{List, [], _∷_}
 use native.Mathlib.Omega.{arith}
-use native.Mathlib.Nat.{add-zero, sub-zero}
+use native.Mathlib.Nat.{sub-zero}
 use native.Mathlib.Numerals.{add-one}
 use native.Mathlib.Decide.{decLt}
 use borrow.Author.Tests.{eq-eqb, ne-eqb, lt-ltb, le-ltb, le-leb}
 use lib.ListN.{length, getD, take, drop, set, length-drop, length-append}
-use lib.Seq.{getD-drop, drop-drop, length-take-le}
+use lib.Seq.{drop-drop, length-take-le}
 use lib.Dec.{eqb, ltb}
 use Rattle.answer.specs.Outcome.{Sound, First, here, later, next, none, outputTooSmall, pick}
-use Rattle.laws.proofs.Says.{held}
+use Rattle.laws.proofs.Says.{and-left, and-right, held}
 use Rattle.packbits.specs.Plans.{Planned, planOf, kept, keeps, literalRule, packetOf, planBytes, planFaults, packFaults, literals, literalsOf, plainPlan}
 use Rattle.packbits.specs.Parts.{bytesAt, Placed, packetLength, planLength, roomFaults, Literal, PlannedFits, PlannedPut}
-use Rattle.packbits.proofs.Onward.{and-left, and-right, Upto, upto-none, upto-on, upto-end, placed-after, placed-two}
+use Rattle.packbits.proofs.Onward.{first-at, Upto, upto-none, upto-on, upto-end, placed-after, placed-two}
 use Rattle.packbits.proofs.Planning.{kept-is, plan-from, planned-at, plan-next, plan-end}
 
 -- a packet's bytes, and a plan's
@@ -59,10 +59,9 @@ module _ (row out : List ℕ) (at to : ℕ) where
   pub repeat-put : (p : Planned) → (p .kind ≡ 0 → ⊥) → PlannedFits row at p out to → Placed to (packetOf (drop at row) p) out (set (set out to (257 - p .bytes)) (to + 1) (getD row at 0))
   unfolding packetOf
   repeat-put p o fit =
-      let first : getD (drop at row) 0 0 ≡ getD row at 0 = getD-drop at row 0 0 ∙ ap (λ (k : ℕ). getD row k 0) (add-zero at) in
       let kind = ne-eqb (p .kind) 0 o in
       let room : to + 2 ≤ length out = rw kind at (fit .room) in
-      rw (kind, first) (placed-two out to (257 - p .bytes) (getD row at 0) room)
+      rw (kind, first-at row at) (placed-two out to (257 - p .bytes) (getD row at 0) room)
 
 -- a plan's packets put up to one of them
 pub record Putting (kinds lengths row out₀ : List ℕ) (at to k : ℕ) (out : List ℕ) : Type 0 where

@@ -13,13 +13,13 @@ use Rattle.answer.proofs.Promised.{sound-more, writes, done-sound, done-value, 
 use Rattle.answer.proofs.Filling.{table-same}
 use Rattle.laws.proofs.Lists.{own-front}
 use Rattle.laws.proofs.Turns.{every-one}
+use Rattle.laws.proofs.Says.{and-left, and-right}
 use Rattle.packbits.specs.declared.Unpacked.{Unpacked}
 use Rattle.packbits.specs.declared.Unpacked.the-variants as Unpacked-is
 use Rattle.packbits.specs.declared.Packed.the-variants as Packed-is
 use Rattle.packbits.specs.Rows.{fills, takes, Packet, header, behind, packets, packetBytes, bytesOf, takenBy, rowFaults, rowBytes, used, RowUnpacked}
 use Rattle.packbits.specs.Plans.{Planned, planOf, kept, keeps, packetOf, planBytes, plainPlan, literalsOf, planFaults, packFaults, PlanWritten, RowPacked}
 use Rattle.packbits.proofs.Determined.{answer-once}
-use Rattle.packbits.proofs.Onward.{and-left, and-right}
 use Rattle.packbits.proofs.Packets.{copies, repeats, takes-some, goes-on, sound-packet}
 use Rattle.packbits.proofs.Planning.{Kept, kept-is}
 use Rattle.packbits.proofs.Putting.{plain-keeps, plain-bytes}

@@ -1,3 +1,4 @@
 pub mod Reversing
 pub mod Twice
+pub mod Copied
 pub mod Determined

@@ -1,13 +1,15 @@
 -- `packbits::pack_row` meets its promise: it refuses for want of room alone, and past that writes literals. Assumes nothing.
 use borrow.Author.Needs.{needs}
+use native.Mathlib.Nat.{sub-zero}
 use native.Mathlib.Omega.{arith}
 use Prim.Native.Nat.{_+_, _≤_}
-use mathlib.Core.Path.{sym}
+use mathlib.Core.Path.{sym, _∙_}
 use lib.ListN.{length}
 use denote.Ref.{now}
+use Rattle.answer.proofs.Filling.{length-part}
 use Rattle.answer.proofs.Promised.{refuses}
 use Rattle.packbits.specs.Plans.{literalsOf, plainPlan, planBytes, packFaults}
-use Rattle.packbits.proofs.Onward.{finishes-with, front-length, put-part}
+use Rattle.packbits.proofs.Onward.{finishes-with, put-part}
 use Rattle.packbits.proofs.Putting.{plain-bytes, pack-first, pack-sound}
 use Rattle.packbits.proofs.pack_row.Statement.{statement}
 use Rattle.packbits.proofs.pack_row.Tie as tie
@@ -40,7 +42,7 @@ pack-row-spec =
     let all = c .before in
     let count = all .before .before in
     let args = begun count .args in
-    sym (rw (count .literals-of .ensures) (front-length (length (now (args .row)) + literalsOf (length (now (args .row)))) (now (args .out)) (room all))))
+    let n = length (now (args .row)) + literalsOf (length (now (args .row))) in sym (rw (count .literals-of .ensures) (length-part 0 n (now (args .out)) (omega arith) (room all) ∙ sub-zero n)))
     (λ c. search needs)
     (λ c.
     let put = c .before .before in

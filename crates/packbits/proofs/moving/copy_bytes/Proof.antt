@@ -7,7 +7,7 @@ use lib.Dec.{leb}
 use lib.ListN.{length}
 use denote.Ref.{now}
 use Rattle.packbits.specs.Parts.{CopyFits}
-use Rattle.packbits.proofs.Onward.{and-left, and-right}
+use Rattle.laws.proofs.Says.{and-left, and-right}
 use Rattle.packbits.proofs.Placing.{literal-placed}
 use Rattle.packbits.proofs.moving.copy_bytes.Statement.{statement}
 use Rattle.packbits.proofs.moving.copy_bytes.Tie as tie
