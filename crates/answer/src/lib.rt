@@ -1,4 +1,6 @@
 // What every call answers with: the five refusals, the finished work, the two kinds of position; and how a check looks for faults in order.
+#![tactic(auto)]
+
 ghost use Rattle.std.specs.Prelude.{◌≡◌, [], ◌∷◌};
 ghost use Rattle.answer.specs.Outcome.{number as number_of, fault_of, Step, InOrder};
 

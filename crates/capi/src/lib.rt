@@ -1,5 +1,7 @@
 // The C interface: a thin function for each call, which include/hamrisk.h declares. Each returns 0 for done or rule 1.1's number of the
 // refusal; a value comes back through a lent number, which a refusal leaves as it was.
+#![tactic(auto)]
+
 use answer::{ByteAt, Done, SampleAt};
 
 mod layouts;

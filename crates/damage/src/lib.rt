@@ -1,4 +1,6 @@
 // Damage marks: which samples of a strip the damaged bytes can change, with prediction or without it.
+#![tactic(auto)]
+
 mod blocks;
 mod count;
 mod fill;

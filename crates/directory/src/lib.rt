@@ -1,4 +1,6 @@
 // A page of a TIFF file: its layout, its predictor, its compression, and where its strips stand.
+#![tactic(auto)]
+
 use answer::{ByteAt, Done, Refusal};
 use layout::RasterLayout;
 

@@ -1,4 +1,6 @@
 // A TIFF file's header, its directories and their entries: the field of a tag, its values, and the faults that any field can have.
+#![tactic(auto)]
+
 use answer::{Done, Refusal, fault, first_of};
 
 mod numbers;

@@ -1,4 +1,6 @@
 // A TIFF file of one page, written from planes: what it is served for, how long it is, and the file itself, which `directory` reads back.
+#![tactic(auto)]
+
 use answer::{Done, Refusal, fault, first_of};
 use layout::{Fields, RasterLayout};
 

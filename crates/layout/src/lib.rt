@@ -1,4 +1,6 @@
 // Layouts of pictures: what a caller says of one, what follows from it, whether it can be, and where a byte of the picture comes from.
+#![tactic(auto)]
+
 use answer::{ByteAt, Done, Refusal, fault, first_of};
 
 mod derived;

@@ -1,4 +1,6 @@
 // PackBits rows: unpacked, measured without a buffer, and packed by a plan or as literals.
+#![tactic(auto)]
+
 use answer::{Done, Refusal, fault};
 
 mod moving;

@@ -1,5 +1,7 @@
 // A state of packets as 80 numbers: those of its plan, the bytes received, the bytes of the unfinished word as one number, the sums, and
 // eight that are not used.
+#![tactic(auto)]
+
 ghost use Rattle.std.specs.Prelude.{◌≡◌, length, get_or};
 ghost use Rattle.words.specs.Digits.{value};
 ghost use Rattle.words.specs.Word.{Bytes};

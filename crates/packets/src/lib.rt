@@ -1,5 +1,7 @@
 // A strip that comes in pieces, converted as it comes: a state is all that the bytes so far leave to be known, and each piece writes the
 // samples that it completes.
+#![tactic(auto)]
+
 mod check;
 mod feed;
 mod moving;

@@ -1,4 +1,6 @@
 // Pixels: what is done to bytes of a picture once they stand in its order. What a rendered and a written byte is stands in specs/.
+#![tactic(auto)]
+
 mod shares;
 
 ghost use Rattle.std.specs.Prelude.{◌≡◌, true};

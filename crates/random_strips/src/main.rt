@@ -1,4 +1,6 @@
 // A second reading of docs/RULES.md, slow and plain, compared with the library on random strips, damage maps, layouts and pictures.
+#![tactic(auto)]
+
 mod calls;
 mod difference;
 mod inputs;

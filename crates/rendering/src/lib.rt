@@ -1,4 +1,6 @@
 // Rendering: the picture that the decoded planes of a layout hold, row by row.
+#![tactic(auto)]
+
 use answer::{Done, Refusal, fault, first_of};
 use layout::RasterLayout;
 

@@ -1,4 +1,6 @@
 // A strip's rows, predicted or with prediction undone: each kind of row in a loop of its own, for every width and both byte orders.
+#![tactic(auto)]
+
 mod differences;
 mod few;
 mod fours;

@@ -1,4 +1,6 @@
 // Samples: what a sample of a strip is, whether a strip has its geometry, and its words in another byte order.
+#![tactic(auto)]
+
 ghost use Rattle.std.specs.Prelude.{◌≡◌};
 ghost use Rattle.answer.specs.Outcome.{xor};
 ghost use Rattle.samples.specs.Sample.{strip};

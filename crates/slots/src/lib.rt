@@ -1,4 +1,6 @@
 // Rows whose bytes of the planes hold several samples or palette indices: rendered, and bilevel rows written.
+#![tactic(auto)]
+
 mod bits;
 mod paint;
 

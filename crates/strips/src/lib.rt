@@ -1,4 +1,6 @@
 // Strips: `convert` gives the samples of a strip, `forward` the strip that reads back to these samples.
+#![tactic(auto)]
+
 ghost use Rattle.samples.specs.Sample.{strip};
 ghost use Rattle.samples.specs.Promises.{Converted, Forwarded};
 

@@ -1,4 +1,6 @@
 // Groups of bytes, each written backwards: what a change of byte order is.
+#![tactic(auto)]
+
 mod back;
 
 ghost use Rattle.std.specs.Prelude.{◌≤◌, ◌<◌};

@@ -1,4 +1,6 @@
 // The used tags of a page of a TIFF file: what they say of its layout, its predictor and its strips, and what is wrong with them.
+#![tactic(auto)]
+
 use answer::{Done, Refusal, first_of};
 use entries::{Directory, Field, Opened};
 use layout::Fields;

@@ -1,4 +1,6 @@
 // Bytes moved and never read as numbers: a copy, and the bits of every byte reversed.
+#![tactic(auto)]
+
 mod reversed;
 
 ghost use Rattle.std.specs.Prelude.{◌≡◌, ◌≤◌, length};

@@ -1,1 +1,2 @@
 // Upstream's definitions and clauses, held beside ours: no code, proofs alone.
+#![tactic(auto)]

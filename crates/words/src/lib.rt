@@ -1,4 +1,6 @@
 // Words: two, three, four or eight bytes as one number, in either byte order, and the byte that stands for itself.
+#![tactic(auto)]
+
 ghost use Rattle.std.specs.Prelude.{◌≡◌, true, [], ◌∷◌, ◌+◌, ◌≤◌, length};
 ghost use Rattle.words.specs.Word.{word_at, backwards};
 ghost use Rattle.words.specs.Promises.{served, load_width, Joined, Placed, ReadWord, LoadedWord};

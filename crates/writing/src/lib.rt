@@ -1,4 +1,6 @@
 // Plane writing: the planes whose rendering is a picture.
+#![tactic(auto)]
+
 mod levels;
 mod one_plane;
 mod planar;
