@@ -66,10 +66,10 @@ stores_at out at (suc n) g p h room = by (dec_lt p n) (λ l. stores_at out at n 
     by (yes l) before = get_or-set_other (stores out at n g) (at + n) (at + p) (g n) 0 (λ e. omega arith) ∙ before l
     by (no m) before = let last : p ≡ n = omega arith in rw last (get_or-set_same (stores out at n g) (at + n) (g n) 0 (rw length-stores (omega arith)))
 
-pub stores-rest : (out : List ℕ) (at n : ℕ) (g : ℕ → ℕ) (k : ℕ) → (at ≤ k → at + n ≤ k) → get_or (stores out at n g) k 0 ≡ get_or out k 0
-stores-rest out at zero g k away = refl
-stores-rest out at (suc n) g k away =
-    get_or-set_other (stores out at n g) (at + n) k (g n) 0 (λ e. omega (arith, away (omega arith))) ∙ stores-rest out at n g k (λ l. omega (arith, away l))
+pub stores_rest : (out : List ℕ) (at n : ℕ) (g : ℕ → ℕ) (k : ℕ) → (at ≤ k → at + n ≤ k) → get_or (stores out at n g) k 0 ≡ get_or out k 0
+stores_rest out at zero g k away = refl
+stores_rest out at (suc n) g k away =
+    get_or-set_other (stores out at n g) (at + n) k (g n) 0 (λ e. omega (arith, away (omega arith))) ∙ stores_rest out at n g k (λ l. omega (arith, away l))
 
 -- a turn that stores n elements, each what f has there, fills n more
 pub stores-filled : (f g : ℕ → ℕ) (old out : List ℕ) (at n : ℕ) → ((p : ℕ) → p < n → g p ≡ f (at + p)) → at + n ≤ length old → out ≡ filled at f old → stores out at n g ≡ filled (at + n) f old
@@ -79,8 +79,8 @@ stores-filled f g old out at (suc n) e room s =
     rw (stores-filled f g old out at n (λ p h. e p (omega arith)) (omega arith) s, e n (omega arith), more) (filled_more (at + n) f old (omega arith))
 
 -- what is not filled yet is as it was
-pub filled-rest : (i : ℕ) (f : ℕ → ℕ) (old : List ℕ) (k : ℕ) → i ≤ k → get_or (filled i f old) k 0 ≡ get_or old k 0
-filled-rest i f old k h =
+pub filled_rest : (i : ℕ) (f : ℕ → ℕ) (old : List ℕ) (k : ℕ) → i ≤ k → get_or (filled i f old) k 0 ≡ get_or old k 0
+filled_rest i f old k h =
     let past : k ≡ length (table i f) + (k - i) = omega (arith, length-table i f) in
     ap (λ (n : ℕ). get_or (filled i f old) n 0) past ∙ get_or-append-add (table i f) (drop i old) (k - i) 0 ∙ get_or-drop i old (k - i) 0 ∙ ap (λ (n : ℕ). get_or old n 0) (omega arith)
 

@@ -159,8 +159,8 @@ hands_on {A} fs gs a w v old new answer s r e p =
 pub sound-here : {f : Fault} {fs : List Fault} → Sound (f ∷ fs) → f.found ≡ false
 sound-here (next t r) = t
 
-pub sound-rest : {f : Fault} {fs : List Fault} → Sound (f ∷ fs) → Sound fs
-sound-rest (next t r) = r
+pub sound_rest : {f : Fault} {fs : List Fault} → Sound (f ∷ fs) → Sound fs
+sound_rest (next t r) = r
 
 -- an answer is told by its number and values: each definition of them has a way back
 abbrev pub kind : ℕ → Refusal

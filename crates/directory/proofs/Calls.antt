@@ -1,6 +1,6 @@
 -- From what each part answers to what the calls promise. Assumes nothing.
 use Prim.Native.Nat.{◌+◌, ◌≤◌, ℕ}
-use Rattle.answer.proofs.Promised.{first_more, refuses, refusing, sound_back, sound-here, sound-rest, sound_skip}
+use Rattle.answer.proofs.Promised.{first_more, refuses, refusing, sound_back, sound-here, sound_rest, sound_skip}
 use Rattle.answer.specs.Outcome.{Fault, Outcome, Promise, Sound, after, number, refused, unless}
 use Rattle.answer.specs.declared.ByteAt.{ByteAt}
 use Rattle.answer.specs.declared.Done.{Done}
@@ -38,8 +38,8 @@ module _ (file : List ℕ) (page : ℕ) (o : Opening) (p : PageOpened file page 
   pub page_refused : {A : Type 0} (gs : List Fault) (x : A) (k : Refusal) → o ≡ OpeningIs.Refused k → refused (number k) ≡ unless (page_faults file page ++ gs) x
   page_refused gs x k e = refusing (page_faults file page ++ gs) x (first_more gs (declined opening_outcome (page_faults file page) (whole_by (tags_of file d)) p e refl))
 
-  pub parts-refused : (old : List ℕ) (k : Refusal) → o ≡ OpeningIs.Refused k → StripsPlaced file page old (DoneIs.Refused k) old
-  parts-refused old k e = refuses (page_faults file page ++ parts_faults file (page_strips file d) old) tt _ old (first_more _ (declined opening_outcome (page_faults file page) (whole_by (tags_of file d)) p e refl))
+  pub parts_refused : (old : List ℕ) (k : Refusal) → o ≡ OpeningIs.Refused k → StripsPlaced file page old (DoneIs.Refused k) old
+  parts_refused old k e = refuses (page_faults file page ++ parts_faults file (page_strips file d) old) tt _ old (first_more _ (declined opening_outcome (page_faults file page) (whole_by (tags_of file d)) p e refl))
 
   module _ (w : Whole) (e : o ≡ OpeningIs.Page w) where
     found : (w ≡ whole_by (tags_of file d)) × Sound (page_faults file page)
@@ -70,6 +70,6 @@ module _ (file : List ℕ) (page k : ℕ) (r : Place) (p : StripPlaced file page
   unfolding strip_faults
   inside at bytes e =
       let found = answered place_outcome (place_faults file page k) (strip_part file strips k) p e refl in
-      let room : strip_place file strips k + strip_length file strips k ≤ length file = ltb-false _ _ (sound-here (sound-rest (sound-rest (sound_back (page_faults file page) _ found.1)))) in
+      let room : strip_place file strips k + strip_length file strips k ≤ length file = ltb-false _ _ (sound-here (sound_rest (sound_rest (sound_back (page_faults file page) _ found.1)))) in
       let from : at.0 ≡ strip_place file strips k = ap (λ (q : Part). q.at) found.0 in
       let n : bytes ≡ strip_length file strips k = ap (λ (q : Part). q.bytes) found.0 in omega (arith, room, from, n)

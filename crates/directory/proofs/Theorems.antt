@@ -1,7 +1,7 @@
 -- A strip is the part of the file that its place says; where a page is accepted every strip of it is found, and the lengths of their rows, unpacked
 -- where they are packed, add up to the layout's scratch length, so that all strips end to end are planes that `render` takes. Assumes nothing.
 use Prim.Native.Nat.{◌%◌, ◌*◌, ◌+◌, ◌-◌, ◌<◌, ◌≤◌, suc, zero, ℕ}
-use Rattle.answer.proofs.Promised.{done-sound, done-value, sound_back, sound-done, sound-front, sound-here, sound_more, sound-rest}
+use Rattle.answer.proofs.Promised.{done-sound, done-value, sound_back, sound-done, sound-front, sound-here, sound_more, sound_rest}
 use Rattle.answer.specs.Outcome.{Sound, done, next, pick, unless}
 use Rattle.answer.specs.declared.ByteAt.{ByteAt}
 use Rattle.directory.proofs.Calls.{inside}
@@ -68,7 +68,7 @@ module _ (file : List ℕ) (s : Strips) (k : ℕ) (sound : Sound (strip_faults f
 
   packed-rows : s.packbits ≡ true → Sound (packed_faults file s k)
   unfolding strip_faults
-  packed-rows e = rw e at (sound-rest (sound-rest sound))
+  packed-rows e = rw e at (sound_rest (sound_rest sound))
 
 -- the rows of the strips of a plane: so far, the page's rows or as many as the strips would hold
 rows_so_far : (rows each q : ℕ) → sum q (λ j. smaller each (rows - j * each)) ≡ rows - (rows - q * each)
@@ -223,7 +223,7 @@ strip-some file page k r s at n p q e =
     let found = answered place_outcome (place_faults file page k) (strip_part file strips k) p e refl in
     let sound = sound-front (page_faults file page) _ found.1 in
     let size = some_size file d k (page_layout file page sound) (page_said file page sound) in
-    let some = some_length file strips k size.0 size.1 (sound-rest (sound_back (page_faults file page) _ found.1)) in
+    let some = some_length file strips k size.0 size.1 (sound_rest (sound_back (page_faults file page) _ found.1)) in
     let n_is : n ≡ strip_length file strips k = ap (λ (x : Part). x.bytes) found.0 in
     let room = inside file page k r p at n e in
     let s_is : s ≡ take n (drop at.0 file) = strip-is file page k r s p q ∙ ap (λ (x : Place). cut file (place_outcome x)) e in

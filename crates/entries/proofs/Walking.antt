@@ -1,6 +1,6 @@
 -- Directories on the way to a page: what one that was opened says of its faults, and of the way so far. Assumes nothing.
 use Prim.Native.Nat.{◌+◌, ℕ}
-use Rattle.answer.proofs.Promised.{sound_back, sound-here, sound-rest, sound_skip}
+use Rattle.answer.proofs.Promised.{sound_back, sound-here, sound_rest, sound_skip}
 use Rattle.answer.specs.Outcome.{First, Sound, number, unless}
 use Rattle.answer.specs.declared.Refusal.{Refusal}
 use Rattle.entries.specs.Entries.{DirectoryOpened, directory, directory_at, directory_end, directory_faults, header_faults, little, next_place, on_the_way, open_faults, opened_outcome, place}
@@ -21,7 +21,7 @@ use Rattle.entries.specs.declared.Opened.TheVariants as OpenedIs
 
 -- all entries of a sound directory are there
 way_room : (file : List ℕ) (d : Directory) → Sound (directory_faults file d) → Room file d
-way_room file d s = ltb-false (length file) (directory_end d) (sound-here (sound-rest (sound-rest (sound-rest s))))
+way_room file d s = ltb-false (length file) (directory_end d) (sound-here (sound_rest (sound_rest (sound_rest s))))
 
 -- the directory that was opened at the place of page p
 module _ (file : List ℕ) (le : Bool) (at p : ℕ) (r : Opened) (there : at ≡ place file le p) (opened : OpenedAt file le at r) where

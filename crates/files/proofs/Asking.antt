@@ -5,7 +5,7 @@ use mathlib.Core.Path.{◌≡◌, ap}
 use borrow.Author.Tests.{eqb-false, ltb-false, not-false}
 use lib.Dec.{eqb, ltb}
 use Rattle.answer.specs.Outcome.{Sound}
-use Rattle.answer.proofs.Promised.{sound-front, sound_back, sound-here, sound-rest}
+use Rattle.answer.proofs.Promised.{sound-front, sound_back, sound-here, sound_rest}
 use Rattle.laws.proofs.Says.{neither}
 use Rattle.layout.specs.declared.RasterLayout.{RasterLayout}
 use Rattle.layout.specs.Layout.{completed, scratch_length, layout_faults, record_faults}
@@ -17,7 +17,7 @@ pub asked : (l : RasterLayout) (each : ℕ) → Sound (asked_faults l each) → 
 asked l each s =
     let whole = sound-front (record_faults l) _ s in
     let rest = sound_back (record_faults l) _ s in
-    let rows = neither (eqb each 0) (ltb l.fields.h each) (sound-here (sound-rest rest)) in
+    let rows = neither (eqb each 0) (ltb l.fields.h each) (sound-here (sound_rest rest)) in
     record {
       whole = record_whole l whole;
       fit = record {

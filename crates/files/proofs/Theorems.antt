@@ -14,7 +14,7 @@ use Rattle.answer.proofs.Promised.{writes, done-sound, done-value, sound-done, s
 use Rattle.laws.specs.Turns.{end_to_end}
 use Rattle.laws.proofs.Says.{held}
 use Rattle.laws.proofs.Turns.{turns_all}
-use Rattle.laws.proofs.Joined.{joined_same, parts-joined}
+use Rattle.laws.proofs.Joined.{joined_same, parts_joined}
 use Rattle.layout.specs.declared.Fields.{Fields}
 use Rattle.layout.specs.declared.RasterLayout.{RasterLayout}
 use Rattle.layout.specs.Layout.{layout_faults, completed, encoded_width, plane_channels, scratch_length, output_length, eight_rule, alpha_rule, palette_rule, slots_rule}
@@ -137,7 +137,7 @@ file_back f each planes fit all =
     record {
       page = λ r p. read_directory_determined (file_of f each planes) 0 r (FoundIs.Found (page_back f each)) p (sym (taken f each planes fit all));
       strip = λ k s h p. p ∙ strip_back_lem f each planes fit all k h;
-      whole = λ s p. joined_same (strips f each) s (strip_back f each planes) (λ k h. p k h ∙ strip_back_lem f each planes fit all k h) ∙ parts-joined (strips f each) (strip_bytes f each) planes ∙ ap (λ (n : ℕ). take n planes) (strips-all f each fit);
+      whole = λ s p. joined_same (strips f each) s (strip_back f each planes) (λ k h. p k h ∙ strip_back_lem f each planes fit all k h) ∙ parts_joined (strips f each) (strip_bytes f each) planes ∙ ap (λ (n : ℕ). take n planes) (strips-all f each fit);
     }
 
 -- what an accepted call wrote is read back

@@ -48,6 +48,6 @@ sum-all zero m = sym (mul-zero m)
 sum-all (suc n) m = rw (sum-all n m, mul-suc m n)
 
 -- the parts of a list that follow one another, end to end
-pub parts-joined : (n : ℕ) (size : ℕ → ℕ) (l : List ℕ) → end_to_end n (λ k. take (size k) (drop (sum k size) l)) ≡ take (sum n size) l
-parts-joined zero size l = refl
-parts-joined (suc n) size l = rw (parts-joined n size l) (sym (take-add (sum n size) (size n) l))
+pub parts_joined : (n : ℕ) (size : ℕ → ℕ) (l : List ℕ) → end_to_end n (λ k. take (size k) (drop (sum k size) l)) ≡ take (sum n size) l
+parts_joined zero size l = refl
+parts_joined (suc n) size l = rw (parts_joined n size l) (sym (take-add (sum n size) (size n) l))

@@ -7,7 +7,7 @@ use native.Mathlib.Omega.{arith}
 use lib.ListN.{length, get_or, take, set, length-set, length-take}
 use lib.Seq.{get_or-take, ext_get_or, get_or-set_same, get_or-set_other}
 use Rattle.answer.specs.Table.{table, filled}
-use Rattle.answer.proofs.Filling.{part, length_part, part_at, length-table, table_at, table_same, filled_more, filled-rest, filled-all}
+use Rattle.answer.proofs.Filling.{part, length_part, part_at, length-table, table_at, table_same, filled_more, filled_rest, filled-all}
 
 -- past a list's end stands 0
 pub past_end : (l : List ℕ) (i : ℕ) → length l ≤ i → get_or l i 0 ≡ 0
@@ -56,7 +56,7 @@ Changed g old n out = FilledTo (λ k. g (get_or old k 0)) old n out
 
 pub changed_next : (g : ℕ → ℕ) {old out : List ℕ} {n x : ℕ} → Changed g old n out → n < length out → x ≡ g (get_or out n 0) → Changed g old (n + 1) (set out n x)
 changed_next g {old} {out} {n} {x} is more e =
-    let unread : get_or out n 0 ≡ get_or old n 0 = ap (λ (l : List ℕ). get_or l n 0) is.so_far ∙ filled-rest n (λ k. g (get_or old k 0)) old n (omega arith) in
+    let unread : get_or out n 0 ≡ get_or old n 0 = ap (λ (l : List ℕ). get_or l n 0) is.so_far ∙ filled_rest n (λ k. g (get_or old k 0)) old n (omega arith) in
     filled_next is (omega (arith, is.same)) x (e ∙ ap g unread)
 
 -- the front of a buffer that is a table, byte by byte

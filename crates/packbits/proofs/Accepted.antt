@@ -10,7 +10,7 @@ use borrow.Author.Tests.{eqb-true, eq-eqb, le-leb, not-false}
 use lib.ListN.{length, get_or, drop, length-drop}
 use lib.Seq.{get_or-drop, drop-drop}
 use lib.Dec.{eqb}
-use Rattle.answer.proofs.Promised.{done-sound, sound-done, sound-here, sound-rest}
+use Rattle.answer.proofs.Promised.{done-sound, sound-done, sound-here, sound_rest}
 use Rattle.laws.proofs.Joined.{sum-within}
 use Rattle.laws.proofs.Turns.{every_one, every-all}
 use Rattle.laws.proofs.Says.{and_left}
@@ -84,4 +84,4 @@ plan_accepted row kinds lengths old r room answer new p =
 pub accepted_keeps : (row kinds lengths old : List ℕ) (n : ℕ) (new : List ℕ) → PlanWritten row kinds lengths old (PackedIs.Length n) new → PlanRules row kinds lengths
 accepted_keeps row kinds lengths old n new p =
     let sound = done-sound (plan_faults row kinds lengths old) (length (plan_bytes row (plan_of kinds lengths))) n (sym p.answers) in
-    rules_of row kinds lengths (eqb-true (length kinds) (length lengths) (not-false (eqb (length kinds) (length lengths)) (sound-here sound))) (not-false (keeps row (plan_of kinds lengths)) (sound-here (sound-rest sound)))
+    rules_of row kinds lengths (eqb-true (length kinds) (length lengths) (not-false (eqb (length kinds) (length lengths)) (sound-here sound))) (not-false (keeps row (plan_of kinds lengths)) (sound-here (sound_rest sound)))

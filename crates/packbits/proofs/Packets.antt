@@ -13,7 +13,7 @@ use Rattle.answer.specs.declared.Done.{Done}
 use Rattle.answer.specs.declared.Done.TheVariants as DoneIs
 use Rattle.answer.specs.declared.Refusal.TheVariants.{Invalid, Truncated}
 use Rattle.answer.specs.Outcome.{Fault, Sound, none, next, First, here, pick, truncated, fault_of, Step, InOrder}
-use Rattle.answer.proofs.Promised.{refusing, first_more, sound-front, sound_back, sound-here, sound-rest}
+use Rattle.answer.proofs.Promised.{refusing, first_more, sound-front, sound_back, sound-here, sound_rest}
 use Rattle.answer.specs.Table.{table}
 use Rattle.answer.proofs.Filling.{length-table}
 use Rattle.laws.proofs.Faults.{Past, past_none, past_more, past_step}
@@ -66,8 +66,8 @@ unfolding packet_faults
 fits p s =
     record {
       there = some (length p.input) (sound-here s);
-      passes = ltb-false p.left (fills (header p)) (sound-here (sound-rest s));
-      whole = ltb-false (length p.input) (takes (header p)) (sound-here (sound-rest (sound-rest s)));
+      passes = ltb-false p.left (fills (header p)) (sound-here (sound_rest s));
+      whole = ltb-false (length p.input) (takes (header p)) (sound-here (sound_rest (sound_rest s)));
     }
 
 -- packets up to any number that is enough are all

@@ -101,10 +101,10 @@ module _ {kinds lengths row out₀ out : List ℕ} {at to k : ℕ} (paired : len
         let fit = kept-is (drop at row) p next-kept in
         let long = packet_long (drop at row) p fit.inside in
         let past = drop-drop (get_or lengths k 0) at row in
-        let rest-keeps : keeps (drop (get_or lengths k 0) (drop at row)) (plan_from kinds lengths (k + 1)) ≡ true = and_right (kept (drop at row) p) _ next-keeps in
+        let rest_keeps : keeps (drop (get_or lengths k 0) (drop at row)) (plan_from kinds lengths (k + 1)) ≡ true = and_right (kept (drop at row) p) _ next-keeps in
         record {
           inside = next-inside;
-          keeps_rules = rw past at rest-keeps;
+          keeps_rules = rw past at rest_keeps;
           room = omega (arith, next-room);
           upto = rw (← past) (upto_on (packet_of (drop at row) p) (rw (plan-next kinds lengths k more paired) at put.upto) long (omega (arith, next-room)) e);
         }

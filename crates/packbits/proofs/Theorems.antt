@@ -9,7 +9,7 @@ use lib.ListN.{length, get_or, take, drop, take-append-drop, length-drop, length
 use lib.Seq.{drop_at, take_at, length-take-le}
 use lib.Dec.{eqb}
 use Rattle.answer.specs.Outcome.{Outcome, Sound, none, done, after, pick}
-use Rattle.answer.proofs.Promised.{sound_more, writes, done-sound, done-value, sound-done, sound-here, sound-rest}
+use Rattle.answer.proofs.Promised.{sound_more, writes, done-sound, done-value, sound-done, sound-here, sound_rest}
 use Rattle.answer.proofs.Filling.{table_same}
 use Rattle.laws.proofs.Lists.{own_front}
 use Rattle.laws.proofs.Turns.{every_one}
@@ -120,7 +120,7 @@ plan_reads_back row kinds lengths old n new w more row₀ long answer read p =
     let faults = plan_faults row kinds lengths old in
     let sound = done-sound faults (length (plan_bytes row plan)) n (sym w.answers) in
     let is : length (plan_bytes row plan) ≡ n = done-value faults (length (plan_bytes row plan)) n (sym w.answers) in
-    let keep : keeps row plan ≡ true = not-false (keeps row plan) (sound-here (sound-rest sound)) in
+    let keep : keeps row plan ≡ true = not-false (keeps row plan) (sound-here (sound_rest sound)) in
     let wrote : take n new ≡ plan_bytes row plan = ap (λ (k : ℕ). take k new) (sym is) ∙ writes n new w in
     unpacked (take n new ++ more) row n (rw (wrote, ← is) (plan_reads row plan more keep)) row₀ long answer read p
 

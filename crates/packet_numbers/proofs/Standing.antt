@@ -11,7 +11,7 @@ use lib.Dec.{ltb, eqb}
 use lib.ListN.{length, get_or, set, length-set}
 use lib.Seq.{ext_get_or, get_or-set_same, get_or-set_other}
 use Rattle.answer.specs.Table.{table, stores}
-use Rattle.answer.proofs.Filling.{part, length_part, part_at, length-table, table_at, table_same, table_self, length-stores, stores_at, stores-rest}
+use Rattle.answer.proofs.Filling.{part, length_part, part_at, length-table, table_at, table_same, table_self, length-stores, stores_at, stores_rest}
 use Rattle.words.specs.Digits.{digit, value}
 use Rattle.words.specs.Word.{Bytes}
 use Rattle.words.proofs.Digits.{digit_value, value-digit, value_same}
@@ -84,7 +84,7 @@ module _ (st : Packets) (tail : ℕ) (tails : length st.tail ≡ 8) (sums : leng
   first p h = stores_at (with_sums st.sums) 0 8 (λ q. get_or (front st tail) q 0) p h (omega (arith, sums-long))
 
   later : (k : ℕ) → 8 ≤ k → get_or s k 0 ≡ get_or (with_sums st.sums) k 0
-  later k h = stores-rest (with_sums st.sums) 0 8 (λ q. get_or (front st tail) q 0) k (λ l. omega arith)
+  later k h = stores_rest (with_sums st.sums) 0 8 (λ q. get_or (front st tail) q 0) k (λ l. omega arith)
 
   sum_at_lem : (j : ℕ) → j < 64 → get_or s (8 + j) 0 ≡ get_or st.sums j 0
   unfolding with_sums
@@ -92,7 +92,7 @@ module _ (st : Packets) (tail : ℕ) (tails : length st.tail ≡ 8) (sums : leng
 
   none-at : (j : ℕ) → j < 8 → get_or s (72 + j) 0 ≡ 0
   unfolding with_sums
-  none-at j h = later (72 + j) (omega arith) ∙ stores-rest (table 80 (λ j. 0)) 8 64 (λ i. get_or st.sums i 0) (72 + j) (λ l. omega arith) ∙ table_at 80 (λ j. 0) (72 + j) (omega arith)
+  none-at j h = later (72 + j) (omega arith) ∙ stores_rest (table 80 (λ j. 0)) 8 64 (λ i. get_or st.sums i 0) (72 + j) (λ l. omega arith) ∙ table_at 80 (λ j. 0) (72 + j) (omega arith)
 
   none-used : all_unused s ≡ true
   unfolding all_unused

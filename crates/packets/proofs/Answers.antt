@@ -5,21 +5,20 @@ use mathlib.Core.List.{List, [], ◌++◌}
 use Prim.Native.Nat.{ℕ, ◌+◌, ◌≤◌}
 use borrow.Author.Tests.{eq-eqb, ltb-false}
 use lib.ListN.{length}
-use Rattle.answer.specs.Outcome.{Outcome, done, refused, unless, number, First, later, Sound, next, Promise, done_outcome}
+use Rattle.answer.specs.Outcome.{Outcome, done, refused, unless, First, later, Sound, next, Promise, done_outcome}
 use Rattle.answer.specs.Table.{table}
 use Rattle.answer.specs.declared.Refusal.{Refusal}
 use Rattle.answer.proofs.Filling.{whole, length-table}
-use Rattle.answer.proofs.Promised.{first-refused, sound-done, done-sound, sound-here, sound-rest}
+use Rattle.answer.proofs.Promised.{first-refused, sound-done, done-sound, sound-here, sound_rest}
 use Rattle.samples.specs.Promises.{strip_faults}
 use Rattle.packets.specs.declared.Packets.{Packets}
 use Rattle.packets.specs.declared.Started.{Started}
 use Rattle.packets.specs.declared.Stepped.{Stepped}
-use Rattle.packets.specs.declared.Position.{Position}
-use Rattle.packets.specs.declared.Moved.{Moved}
+use Rattle.packets.specs.declared.Wrote.{Wrote}
 use Rattle.packets.specs.declared.Wrote.TheVariants as WroteIs
 use Rattle.packets.specs.declared.Plan.{Plan}
-use Rattle.packets.specs.State.{geometry, tail_at, sum_at, tail_of, sums_of, position_at, state_at, behind, most}
-use Rattle.packets.specs.Promises.{wrote_outcome, nowhere, parts, state, stayed, Begun, completes, piece_faults, continued_at, continued, Took, lent_faults, lent_taking, TookLent}
+use Rattle.packets.specs.State.{geometry, tail_at, sum_at, tail_of, sums_of, state_at, behind, most}
+use Rattle.packets.specs.Promises.{wrote_outcome, nowhere, state, Begun, completes, piece_faults, continued_at, continued, Took, lent_faults, lent_taking, TookLent}
 use Rattle.packets.specs.Steps.{Fed}
 
 -- lists of a state's lengths: the faults are a piece's
@@ -30,47 +29,42 @@ module _ (st : Packets) (piece old : List ℕ) (tails : length st.tail ≡ 8) (s
   pub lent-sound : Sound (piece_faults st piece old) → Sound (lent_faults st piece old)
   lent-sound sound = next (ap not (eq-eqb (length st.tail) 8 tails)) (next (ap not (eq-eqb (length st.sums) 64 sums)) sound)
 
-module _ {st : Packets} {piece old : List ℕ} where
-  pub lent-refused : {n : ℕ} (r : Moved) {kind : Refusal} → First (lent_faults st piece old) n → r ≡ stayed st.position kind → number kind ≡ n → TookLent st piece old r st.tail st.sums old
-  lent-refused {n} r {kind} first e same =
+module _ {st : Packets} {piece old : List ℕ} {answer : Wrote} where
+  pub lent-refused : {n : ℕ} → First (lent_faults st piece old) n → wrote_outcome answer ≡ refused n → TookLent st piece old answer st.tail st.sums old
+  lent-refused {n} first e =
       let o : lent_taking st piece old ≡ refused n = first-refused (completes st (length piece)) first in
-      record { writes = record { answers = ap (λ (x : Moved). wrote_outcome x.answer) e ∙ ap refused same ∙ sym o; leaves = rw o }; position_is = rw (o, e); tails = rw o; sums_are = rw o }
+      record { writes = record { answers = e ∙ sym o; leaves = rw o }; tails = rw o; sums_are = rw o }
 
-  pub lent-done : {r : Moved} {tail sums new : List ℕ} → Sound (lent_faults st piece old) → wrote_outcome r.answer ≡ done (completes st (length piece)) → r.position ≡ position_at st.plan (st.received + length piece) → Fed st piece old (state st.plan (st.received + length piece) tail sums) new → TookLent st piece old r tail sums new
-  unfolding state_at
-  lent-done {r} {tail} {sums} {new} sound e there fed =
+  pub lent-done : {tail sums new : List ℕ} → Sound (lent_faults st piece old) → wrote_outcome answer ≡ done (completes st (length piece)) → Fed st piece old (state st.plan (st.received + length piece) tail sums) new → TookLent st piece old answer tail sums new
+  lent-done {tail} {sums} {new} sound e fed =
       let n = completes st (length piece) in
       let o : lent_taking st piece old ≡ done n = sound-done n sound in
       record {
         writes = record { answers = e ∙ sym o; leaves = rw o (fed.wrote ∙ whole n (continued_at st piece) old) };
-        position_is = rw o there;
         tails = rw o (ap (λ (x : Packets). x.tail) fed.state-is);
         sums_are = rw o (ap (λ (x : Packets). x.sums) fed.state-is);
       }
 
 -- a state by value lends lists of a state's lengths
-module _ (st : Packets) (piece old : List ℕ) (tails : length st.tail ≡ 8) (sums : length st.sums ≡ 64) {r : Moved} {tail' sums' new : List ℕ} (is : TookLent st piece old r tail' sums' new) where
+module _ (st : Packets) (piece old : List ℕ) (tails : length st.tail ≡ 8) (sums : length st.sums ≡ 64) {answer : Wrote} {tail' sums' new : List ℕ} (is : TookLent st piece old answer tail' sums' new) where
   abbrev taking : Outcome ℕ
   taking = unless (piece_faults st piece old) (completes st (length piece))
 
   lent_same : lent_taking st piece old ≡ taking
   lent_same = rw (eq-eqb (length st.tail) 8 tails, eq-eqb (length st.sums) 64 sums)
 
-  wrote-same : Promise taking (table (completes st (length piece)) (continued_at st piece)) old (wrote_outcome r.answer) new
+  wrote-same : Promise taking (table (completes st (length piece)) (continued_at st piece)) old (wrote_outcome answer) new
   wrote-same = rw lent_same at is.writes
 
-  pub piece_refused : (kind : Refusal) → r.answer ≡ WroteIs.Refused kind → Took st piece old (record { state = st; answer = WroteIs.Refused kind }) new
+  pub piece_refused : (kind : Refusal) → answer ≡ WroteIs.Refused kind → Took st piece old (record { state = st; answer = WroteIs.Refused kind }) new
   piece_refused kind e = record { writes = rw e at wrote-same; state = rw (sym wrote-same.answers ∙ ap wrote_outcome e) }
 
-  module _ {n : ℕ} (e : r.answer ≡ WroteIs.Bytes n) where
+  module _ {n : ℕ} (e : answer ≡ WroteIs.Bytes n) where
     finished : taking ≡ done n
     finished = sym wrote-same.answers ∙ ap wrote_outcome e
 
     pub piece_fits : st.received + length piece ≤ most
-    piece_fits = ltb-false most (st.received + length piece) (sound-here (sound-rest (done-sound (piece_faults st piece old) (completes st (length piece)) n finished)))
-
-    position_is : r.position ≡ (continued st piece).position
-    position_is = rw (lent_same, finished) at is.position-is
+    piece_fits = ltb-false most (st.received + length piece) (sound-here (sound_rest (done-sound (piece_faults st piece old) (completes st (length piece)) n finished)))
 
     tail_is : tail' ≡ (continued st piece).tail
     tail_is = rw (lent_same, finished) at is.tails
@@ -85,14 +79,14 @@ module _ (st : Packets) (piece old : List ℕ) (tails : length st.tail ≡ 8) (s
         let end = st.received + length piece in
         (ap length tail_is ∙ length-table 8 (tail_at st.plan strip end), ap length sums-is ∙ length-table 64 (sum_at st.plan strip end))
 
-    rejoined : {position : Position} {tail sums : List ℕ} → position ≡ (continued st piece).position → tail ≡ (continued st piece).tail → sums ≡ (continued st piece).sums → parts st.plan (st.received + length piece) position tail sums ≡ continued st piece
+    rejoined : {tail sums : List ℕ} → tail ≡ (continued st piece).tail → sums ≡ (continued st piece).sums → state st.plan (st.received + length piece) tail sums ≡ continued st piece
     unfolding state_at
-    rejoined x t s = rw (x, t, s)
+    rejoined t s = rw (t, s)
 
-    pub piece_done : Took st piece old (record { state = parts st.plan (st.received + length piece) r.position tail' sums'; answer = WroteIs.Bytes n }) new
+    pub piece_done : Took st piece old (record { state = state st.plan (st.received + length piece) tail' sums'; answer = WroteIs.Bytes n }) new
     piece_done = record {
       writes = rw e at wrote-same;
-      state = rw finished (rejoined position_is tail_is sums-is);
+      state = rw finished (rejoined tail_is sums-is);
     }
 
 pub took_done : {st : Packets} {piece old : List ℕ} {r : Stepped} {new : List ℕ} → Sound (piece_faults st piece old) → wrote_outcome r.answer ≡ done (completes st (length piece)) → Fed st piece old r.state new → Took st piece old r new

@@ -20,14 +20,14 @@ use Rattle.samples.specs.Promises.{strip_faults}
 use Rattle.samples.proofs.Sums.{in_row, sample-alone, sample-later}
 use Rattle.samples.proofs.Stored.{stored_byte}
 use Rattle.samples.proofs.Strips.{good_checked, per_row_lem}
-use Rattle.answer.proofs.Promised.{sound-here, sound-rest}
+use Rattle.answer.proofs.Promised.{sound-here, sound_rest}
 use Rattle.packets.specs.declared.Packets.{Packets}
 use Rattle.packets.specs.declared.Plan.{Plan}
-use Rattle.packets.specs.State.{geometry, sample_of, latest, tail_at, sum_at, tail_of, sums_of, position_at, state_at, most, clear, live, tail_right, sum_right, tails_right, sums_right, placed, consistent, behind}
+use Rattle.packets.specs.State.{geometry, sample_of, latest, tail_at, sum_at, tail_of, sums_of, state_at, most, clear, live, tail_right, sum_right, tails_right, sums_right, consistent, behind}
 use Rattle.laws.proofs.Says.{both, up}
 use Rattle.laws.proofs.Turns.{every_one}
 use Rattle.laws.proofs.Lists.{past_end}
-use Rattle.packets.proofs.Checking.{clear-sound, position_equal}
+use Rattle.packets.proofs.Checking.{clear-sound}
 use Rattle.packets.proofs.Latest.{latest-none}
 use Rattle.packets.proofs.Bytewise.{Sane, row-some}
 
@@ -40,30 +40,27 @@ pub record Shaped (st : Packets) : Type 0 where
 pub record Passed (st : Packets) : Type 0 where
   pub sound : Sound (strip_faults 0 (geometry st.plan))
   pub short : st.received ≤ most
-  pub position : st.position ≡ position_at st.plan st.received
   pub tail : tails_right st.tail (st.received % st.plan.width) ≡ true
   pub sums : sums_right st.sums st.plan.width (live st) ≡ true
 
 pub passed : (st : Packets) → consistent st ≡ true → Passed st
-unfolding consistent placed
+unfolding consistent
 passed st e =
     let first = (both (up (clear (strip_faults 0 (geometry st.plan)))) (up _)).tells e in
     let second = (both (up (not (ltb most st.received))) (up _)).tells first.1 in
-    let third = (both (position_equal st.position (position_at st.plan st.received)) (up _)).tells second.1 in
-    let fourth = (both (up (tails_right st.tail (st.received % st.plan.width))) (up _)).tells third.1 in
+    let third = (both (up (tails_right st.tail (st.received % st.plan.width))) (up _)).tells second.1 in
     record {
       sound = clear-sound (strip_faults 0 (geometry st.plan)) first.0;
       short = ltb-false most st.received (not-true (ltb most st.received) second.0);
-      position = third.0;
-      tail = fourth.0;
-      sums = fourth.1;
+      tail = third.0;
+      sums = third.1;
     }
 
 pub sane_sound : (p : Plan) → Sound (strip_faults 0 (geometry p)) → Sane p
 sane_sound p s = record {
   good = good_checked 0 (geometry p) s;
   narrow = (served-some p.width (not-false (served p.width) (sound-here s))).1;
-  few = ltb-false 64 p.channels (sound-here (sound-rest (sound-rest s)));
+  few = ltb-false 64 p.channels (sound-here (sound_rest (sound_rest s)));
 }
 
 -- which word of its row comes after k bytes
@@ -227,4 +224,4 @@ module _ (st : Packets) (ok : Passed st) (shaped : Shaped st) where
 
   pub behind_leads : state_at p (behind st) k ≡ st
   unfolding state_at
-  behind_leads = rw (tail_behind, sums-behind, ok.position)
+  behind_leads = rw (tail_behind, sums-behind)

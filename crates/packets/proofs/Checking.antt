@@ -15,11 +15,10 @@ use Rattle.words.specs.Word.{modulus}
 use Rattle.laws.specs.Turns.{every}
 use Rattle.answer.proofs.Filling.{part, length_part, part_at}
 use Rattle.laws.proofs.Turns.{every-same}
-use Rattle.laws.proofs.Says.{Says, both, up, equal, restated}
+use Rattle.laws.proofs.Says.{both, up}
 use Rattle.packets.specs.declared.Plan.{Plan}
-use Rattle.packets.specs.declared.Position.{Position}
-use Rattle.packets.specs.State.{clear, tail_right, sum_right, tails_right, sums_right, same_position, placed, consistent}
-use Rattle.packets.specs.Promises.{plan, parts}
+use Rattle.packets.specs.State.{clear, tail_right, sum_right, tails_right, sums_right, consistent}
+use Rattle.packets.specs.Promises.{plan, state}
 
 pub sound-clear : {fs : List Fault} → Sound fs → clear fs ≡ true
 sound-clear none = refl
@@ -34,24 +33,9 @@ clear-sound [] e = none
 clear-sound (f ∷ fs) e = let two = (both (up (not f.found)) (up (clear fs))).tells e in next (not-true f.found two.0) (clear-sound fs two.1)
 
 -- the byte orders decide nothing
-pub any_order : (p : Plan) (k : ℕ) (position : Position) (tail sums : List ℕ) → consistent (parts (plan p.row_bytes p.channels p.width true p.predict true) k position tail sums) ≡ consistent (parts p k position tail sums)
-unfolding consistent placed
-any_order p k position tail sums = refl
-
--- five equal numbers are one position
-pub position_equal : (a b : Position) → Says (same_position a b) (a ≡ b)
-position_equal a b = restated (both (equal a.row b.row) (both (equal a.pixel b.pixel) (both (equal a.channel b.channel) (both (equal a.samples b.samples) (equal a.across b.across))))) (λ t. one t.0 t.1.0 t.1.1.0 t.1.1.1.0 t.1.1.1.1) (λ e. (ap (λ (x : Position). x.row) e, (ap (λ (x : Position). x.pixel) e, (ap (λ (x : Position). x.channel) e, (ap (λ (x : Position). x.samples) e, ap (λ (x : Position). x.across) e)))))
-  where
-    abbrev of : ℕ → ℕ → ℕ → ℕ → ℕ → Position
-    of row pixel channel samples across = record { row = row; pixel = pixel; channel = channel; samples = samples; across = across }
-
-    one : a.row ≡ b.row → a.pixel ≡ b.pixel → a.channel ≡ b.channel → a.samples ≡ b.samples → a.across ≡ b.across → a ≡ b
-    one r x c n w =
-        ap (λ (i : ℕ). of i a.pixel a.channel a.samples a.across) r
-        ∙ ap (λ (i : ℕ). of b.row i a.channel a.samples a.across) x
-        ∙ ap (λ (i : ℕ). of b.row b.pixel i a.samples a.across) c
-        ∙ ap (λ (i : ℕ). of b.row b.pixel b.channel i a.across) n
-        ∙ ap (of b.row b.pixel b.channel b.samples) w
+pub any_order : (p : Plan) (k : ℕ) (tail sums : List ℕ) → consistent (state (plan p.row_bytes p.channels p.width true p.predict true) k tail sums) ≡ consistent (state p k tail sums)
+unfolding consistent
+any_order p k tail sums = refl
 
 -- a loop that came to its end has tested all
 pub tails-all : (tail : List ℕ) (begun : ℕ) {n : ℕ} {right : Bool} → n ≤ 8 → 8 ≤ n → right ≡ every n (tail_right tail begun) → right ≡ tails_right tail begun

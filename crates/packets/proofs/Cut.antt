@@ -92,8 +92,8 @@ module _ (st : Packets) (ok : Passed st) (shaped : Shaped st) (a b : List ℕ) (
       omega (arith, completes_end st is.good.wide (length a), completes_end (continued st a) is.good.wide (length b), completes_end st is.good.wide (length (a ++ b)), ap (λ (n : ℕ). n * W) end)
 
 -- a buffer of which the rest from h on was filled on
-pub rest-filled : (f : ℕ → ℕ) (h m l : ℕ) (old out new : List ℕ) → length old ≤ l → h ≤ l → out ≡ filled h f old → new ≡ filled m (λ i. f (h + i)) (take (l - h) (drop h out)) → take h out ++ (new ++ drop (l - h) (drop h out)) ≡ filled (h + m) f old
-rest-filled f h m l old out new full room e is =
+pub rest_filled : (f : ℕ → ℕ) (h m l : ℕ) (old out new : List ℕ) → length old ≤ l → h ≤ l → out ≡ filled h f old → new ≡ filled m (λ i. f (h + i)) (take (l - h) (drop h out)) → take h out ++ (new ++ drop (l - h) (drop h out)) ≡ filled (h + m) f old
+rest_filled f h m l old out new full room e is =
     let past : drop h out ≡ drop h old = ap (drop h) e ∙ drop_at (table h f) (drop h old) h (length-table h f) in
     let short : length (drop h old) ≤ l - h = omega (arith, length-drop h old) in
     let none : drop (l - h) (drop h out) ≡ [] = ap (drop (l - h)) past ∙ drop_of_length-le (drop h old) short in

@@ -8,8 +8,6 @@ use Rattle.answer.proofs.Promised.{determined, done_once, once, kind, kind-numbe
 use Rattle.packets.specs.declared.Packets.{Packets}
 use Rattle.packets.specs.declared.Started.{Started}
 use Rattle.packets.specs.declared.Stepped.{Stepped}
-use Rattle.packets.specs.declared.Position.{Position}
-use Rattle.packets.specs.declared.Moved.{Moved}
 use Rattle.packets.specs.declared.Wrote.{Wrote}
 use Rattle.packets.specs.declared.Wrote.TheVariants as WroteIs
 use Rattle.packets.specs.declared.Plan.{Plan}
@@ -29,17 +27,11 @@ started s d = record { state = s; answer = d }
 abbrev stepped : Packets → Wrote → Stepped
 stepped s d = record { state = s; answer = d }
 
-abbrev moved : Position → Wrote → Moved
-moved s d = record { position = s; answer = d }
-
 started_same : (a b : Started) → a.state ≡ b.state → a.answer ≡ b.answer → a ≡ b
 started_same a b s e = ap (λ (x : Packets). started x a.answer) s ∙ ap (started b.state) e
 
 stepped_same : (a b : Stepped) → a.state ≡ b.state → a.answer ≡ b.answer → a ≡ b
 stepped_same a b s e = ap (λ (x : Packets). stepped x a.answer) s ∙ ap (stepped b.state) e
-
-moved_same : (a b : Moved) → a.position ≡ b.position → a.answer ≡ b.answer → a ≡ b
-moved_same a b s e = ap (λ (x : Position). moved x a.answer) s ∙ ap (moved b.position) e
 
 pub start_determined : (p : Plan) (a b : Started) → Begun p a → Begun p b → a ≡ b
 start_determined p a b x y = started_same a b (x.state ∙ sym y.state) (done_once a.answer b.answer (x.answers ∙ sym y.answers))
@@ -49,10 +41,10 @@ piece_determined st piece old a b x y s t =
     let one = determined (wrote_outcome a.answer) (wrote_outcome b.answer) x y s.writes t.writes in
     (stepped_same a b (s.state ∙ sym t.state) (once wrote_outcome back back-wrote a.answer b.answer one.0), one.1)
 
-pub lent_piece_determined : (st : Packets) (piece old : List ℕ) (a b : Moved) (t u v w x y : List ℕ) → TookLent st piece old a t v x → TookLent st piece old b u w y → (a ≡ b) × ((t ≡ u) × ((v ≡ w) × (x ≡ y)))
+pub lent_piece_determined : (st : Packets) (piece old : List ℕ) (a b : Wrote) (t u v w x y : List ℕ) → TookLent st piece old a t v x → TookLent st piece old b u w y → (a ≡ b) × ((t ≡ u) × ((v ≡ w) × (x ≡ y)))
 lent_piece_determined st piece old a b t u v w x y p q =
-    let one = determined (wrote_outcome a.answer) (wrote_outcome b.answer) x y p.writes q.writes in
-    (moved_same a b (p.position-is ∙ sym q.position-is) (once wrote_outcome back back-wrote a.answer b.answer one.0), (p.tails ∙ sym q.tails, (p.sums-are ∙ sym q.sums-are, one.1)))
+    let one = determined (wrote_outcome a) (wrote_outcome b) x y p.writes q.writes in
+    (once wrote_outcome back back-wrote a b one.0, (p.tails ∙ sym q.tails, (p.sums-are ∙ sym q.sums-are, one.1)))
 
 pub close_determined : (st : Packets) (a b : Done) → Closed st a → Closed st b → a ≡ b
 close_determined st a b x y = done_once a b (x ∙ sym y)

@@ -122,8 +122,8 @@ module _ {p : Plan} {k : ℕ} {bytes tail sums old : List ℕ} (feed : BytesFeed
         abbrev out : List ℕ
         out = halfway done old x
 
-        pub rest-room : done ≤ length out
-        rest-room = omega (arith, same_out feed head done enough whole first, done-room)
+        pub rest_room : done ≤ length out
+        rest_room = omega (arith, same_out feed head done enough whole first, done-room)
 
         pub rest_from : FromWord p (k + head) (part head (length bytes) bytes) tail₁ one (part done (length out) out)
         rest_from = record { feeds = back-feeds feed head done enough whole first; begins = at-word }

@@ -12,7 +12,7 @@ use Rattle.packets.specs.Promises.{no_tail, completes, state}
 use Rattle.packets.specs.Steps.{BytesFeed, BytesFed, WordsFeed, WordsFed, Feeds, Fed}
 use Rattle.packets.proofs.Behind.{passed, sane_sound}
 use Rattle.packets.proofs.Cut.{completes_end}
-use Rattle.packets.proofs.Parts.{head_feeds, out_long, rest-feeds, both_fed}
+use Rattle.packets.proofs.Parts.{head_feeds, out_long, rest_feeds, both_fed}
 
 module _ {p : Plan} {k : ℕ} {bytes tail sums old : List ℕ} (fits : BytesFeed p k bytes tail sums old) (c h : ℕ) (inside : c ≤ length bytes) (e : h ≡ completes (state p k tail sums) c) where
   pub front-feeds : BytesFeed p k (part 0 c bytes) tail sums (part 0 h old)
@@ -32,7 +32,7 @@ module _ {p : Plan} {k : ℕ} {bytes tail sums old : List ℕ} (fits : BytesFeed
     same_out = out_long fits c h inside e first
 
     pub back-feeds : BytesFeed p (k + c) (part c (length bytes) bytes) tail₁ sums₁ (part h (length out) out)
-    back-feeds = subst (λ (st : Packets). Feeds st (part c (length bytes) bytes) (part h (length out) out)) here (rest-feeds fits c h inside e first)
+    back-feeds = subst (λ (st : Packets). Feeds st (part c (length bytes) bytes) (part h (length out) out)) here (rest_feeds fits c h inside e first)
 
     module _ {tail₂ sums₂ y : List ℕ} (second : BytesFed p (k + c) (part c (length bytes) bytes) tail₁ sums₁ (part h (length out) out) tail₂ sums₂ y) where
       all : k + c + length (part c (length bytes) bytes) ≡ k + length bytes
@@ -63,8 +63,8 @@ module _ {p : Plan} {k : ℕ} {raw sums old : List ℕ} (feed : WordsFeed p k ra
   exact : c ≡ completes (state p k no_tail sums) c
   exact = sym (complete_words p k no_tail sums c wide feed.begins words)
 
-  rest-words : (length raw - c) % p.width ≡ 0
-  rest-words =
+  rest_words : (length raw - c) % p.width ≡ 0
+  rest_words =
       let W = p.width in
       let c_words : c / W * W ≡ c = omega (arith, div-add-mod' c W, words) in
       sym (add-mul-mod_self_right (length raw - c) (c / W) W) ∙ ap (λ (n : ℕ). n % W) (omega (arith, c_words, inside)) ∙ feed.words
@@ -83,7 +83,7 @@ module _ {p : Plan} {k : ℕ} {raw sums old : List ℕ} (feed : WordsFeed p k ra
         record {
           feeds = back-feeds feed.feeds c c inside exact first;
           begins = ap (λ (n : ℕ). (k + n) % W) (sym c_words) ∙ add-mul-mod_self_right k (c / W) W ∙ feed.begins;
-          words = rw (length_part c (length raw) raw inside (omega arith)) rest-words;
+          words = rw (length_part c (length raw) raw inside (omega arith)) rest_words;
         }
 
     pub both_words-fed : {two y : List ℕ} → WordsFed p (k + c) (part c (length raw) raw) one (part c (length (halfway c old x)) (halfway c old x)) two y → WordsFed p k raw sums old two (take c (halfway c old x) ++ (y ++ drop (length (halfway c old x) - c) (drop c (halfway c old x))))

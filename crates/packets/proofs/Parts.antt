@@ -12,7 +12,7 @@ use Rattle.packets.specs.State.{state_at, most}
 use Rattle.packets.specs.Promises.{completes, continued_at, continued}
 use Rattle.packets.specs.Steps.{Feeds, Fed}
 use Rattle.packets.proofs.Behind.{Passed, passed, Shaped}
-use Rattle.packets.proofs.Cut.{cut-passes, cut_shaped, cut-state, cut-front, cut-back, cut-long, rest-filled}
+use Rattle.packets.proofs.Cut.{cut-passes, cut_shaped, cut-state, cut-front, cut-back, cut-long, rest_filled}
 
 module _ {st : Packets} {bytes old : List ℕ} (fits : Feeds st bytes old) (c h : ℕ) (inside : c ≤ length bytes) (e : h ≡ completes st c) where
   abbrev a : List ℕ
@@ -77,21 +77,21 @@ module _ {st : Packets} {bytes old : List ℕ} (fits : Feeds st bytes old) (c h 
     pub out_long : length out ≡ length old
     out_long = ap length out_filled ∙ length-filled h (continued_at st bytes) old head_room
 
-    pub rest-room : h ≤ length out
-    rest-room = omega (arith, out_long, head_room)
+    pub rest_room : h ≤ length out
+    rest_room = omega (arith, out_long, head_room)
 
     abbrev left : List ℕ
     left = take (length out - h) (drop h out)
 
     left-long : length left ≡ length old - h
-    left-long = length_part h (length out) out rest-room (omega arith) ∙ omega (arith, out_long)
+    left-long = length_part h (length out) out rest_room (omega arith) ∙ omega (arith, out_long)
 
     received_x : x.received ≡ st.received + c
     unfolding state_at
     received_x = ap (λ (y : Packets). y.received) first.state-is ∙ omega (arith, a-long)
 
-    pub rest-feeds : Feeds x b left
-    rest-feeds =
+    pub rest_feeds : Feeds x b left
+    rest_feeds =
         let shape = subst Shaped (sym first.state-is) (cut_shaped st ok shaped a b first_fits) in
         record {
           passes = rw first.state-is (cut-passes st ok shaped a b first_fits);
@@ -112,6 +112,6 @@ module _ {st : Packets} {bytes old : List ℕ} (fits : Feeds st bytes old) (c h 
         record {
           state-is = second.state-is ∙ ap (λ (z : Packets). continued z b) first.state-is ∙ cut-state st ok shaped a b first_fits ∙ ap (continued st) parts;
           wrote =
-              rest-filled (continued_at st bytes) h m (length out) old out then (omega (arith, out_long)) rest-room out_filled is
+              rest_filled (continued_at st bytes) h m (length out) old out then (omega (arith, out_long)) rest_room out_filled is
               ∙ ap (λ (n : ℕ). filled n (continued_at st bytes) old) total;
         }

@@ -12,7 +12,7 @@ use Rattle.answer.specs.Outcome.{Outcome, done, unless, Sound, next, none, Promi
 use Rattle.answer.specs.Table.{table}
 use Rattle.answer.specs.declared.Done.TheVariants as DoneIs
 use Rattle.answer.proofs.Filling.{length-table, table_same, table_join}
-use Rattle.answer.proofs.Promised.{writes, passed, sound-here, sound-rest, sound_more, sound-done, finishes}
+use Rattle.answer.proofs.Promised.{writes, passed, sound-here, sound_rest, sound_more, sound-done, finishes}
 use Rattle.words.specs.Digits.{digit}
 use Rattle.words.specs.Word.{Bytes, ordered}
 use Rattle.samples.specs.Sample.{Strip, stored_at}
@@ -199,7 +199,7 @@ pieces_convert {p} {pieces} {st} {out} streamed closed old room =
     let far = pieces_so_far streamed in
     let s = joined pieces in
     let g = geometry p in
-    let rest = sound-here (sound-rest (passed (close_faults st) DoneIs.Done closed refl)) in
+    let rest = sound-here (sound_rest (passed (close_faults st) DoneIs.Done closed refl)) in
     let rows : length s % g.row ≡ 0 = rows_whole p s st far.state (eqb-true (st.received % st.plan.row_bytes) 0 (not-false (eqb (st.received % st.plan.row_bytes) 0) rest)) in
     let sound = whole-sound (length s) g rows far.sound in
     let all : length s / g.width * g.width ≡ length s = omega (arith, div-add-mod' (length s) g.width, bytes-words (length s) g (good_checked (length s) g sound)) in

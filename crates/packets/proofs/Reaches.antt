@@ -14,7 +14,7 @@ use Rattle.answer.specs.Outcome.{instead, pick, Sound, next, none, done, done_ou
 use Rattle.answer.specs.Table.{table, filled}
 use Rattle.answer.specs.declared.Done.TheVariants as DoneIs
 use Rattle.answer.proofs.Filling.{length-table, table_at}
-use Rattle.answer.proofs.Promised.{done-sound, sound-here, sound-rest}
+use Rattle.answer.proofs.Promised.{done-sound, sound-here, sound_rest}
 use Rattle.words.specs.Word.{Bytes, modulus, ordered}
 use Rattle.words.proofs.Digits.{digit_below}
 use Rattle.words.proofs.Words.{modulus_pos}
@@ -26,14 +26,14 @@ use Rattle.packets.specs.declared.Started.{Started}
 use Rattle.packets.specs.declared.Stepped.{Stepped}
 use Rattle.packets.specs.declared.Wrote.TheVariants as WroteIs
 use Rattle.packets.specs.declared.Plan.{Plan}
-use Rattle.packets.specs.State.{geometry, per_row, sample_of, latest, tail_at, sum_at, tail_of, sums_of, position_at, state_at, most, tail_right, sum_right, tails_right, sums_right, placed, consistent, behind}
+use Rattle.packets.specs.State.{geometry, per_row, sample_of, latest, tail_at, sum_at, tail_of, sums_of, state_at, most, tail_right, sum_right, tails_right, sums_right, consistent, behind}
 use Rattle.packets.specs.Promises.{wrote_outcome, Begun, Took, Reached, begun, went, piece_faults, completes, continued_at, continued, nowhere}
 use Rattle.laws.proofs.Turns.{every-all}
 use Rattle.packets.proofs.Latest.{latest-none}
 use Rattle.packets.proofs.Bytewise.{Sane}
 use Rattle.laws.proofs.Lists.{past_end}
 use Rattle.packets.proofs.Behind.{Passed, passed, Shaped, sane_sound, behind-length, behind_leads}
-use Rattle.packets.proofs.Checking.{sound-clear, position_equal}
+use Rattle.packets.proofs.Checking.{sound-clear}
 use Rattle.packets.proofs.Answers.{took_done, begun-done}
 use lib.ListN.{get_or-append}
 use lib.Seq.{get_or-append-add}
@@ -105,8 +105,8 @@ module _ (p : Plan) (sound : Sound (strip_faults 0 (geometry p))) (s : List ℕ)
       by j h (no m) = rw (le-ltb j lives (omega arith), table_at 64 (sum_at p s k) j h) (eq-eqb (sum_at p s k j) 0 (sum-none j (omega arith)))
 
   pub state-passes : consistent (state_at p s k) ≡ true
-  unfolding consistent placed state_at lives
-  state-passes = rw (sound-clear sound, le-ltb most k short, (position_equal (position_at p k) (position_at p k)).told refl, tail_fine, sums_fine)
+  unfolding consistent state_at lives
+  state-passes = rw (sound-clear sound, le-ltb most k short, tail_fine, sums_fine)
 
 pub shaped_at : (p : Plan) (s : List ℕ) (k : ℕ) → Shaped (state_at p s k)
 unfolding state_at tail_of sums_of
@@ -159,7 +159,7 @@ history_on st h piece b fits =
     (history_at st.plan h.sound (h.came ++ piece) (bytes_join h.came piece h.bytes b) (st.received + length piece) (length-append h.came piece ∙ rw h.long) fits)
 
 pub took_fits : (st : Packets) (piece old : List ℕ) → Sound (piece_faults st piece old) → st.received + length piece ≤ most
-took_fits st piece old sound = ltb-false most (st.received + length piece) (sound-here (sound-rest sound))
+took_fits st piece old sound = ltb-false most (st.received + length piece) (sound-here (sound_rest sound))
 
 pub history : {st : Packets} → Reached st → History st
 history (begun b e) =

@@ -12,7 +12,7 @@ use lib.ListN.{length, get_or, get_or-append, length-append}
 use lib.Seq.{get_or-append-add, ext_get_or}
 use Rattle.answer.specs.Outcome.{pick}
 use Rattle.answer.specs.Table.{table, filled, stores}
-use Rattle.answer.proofs.Filling.{part, length_part, part_at, length-table, table_at, length-stores, stores_at, stores-rest, filled-same}
+use Rattle.answer.proofs.Filling.{part, length_part, part_at, length-table, table_at, length-stores, stores_at, stores_rest, filled-same}
 use Rattle.laws.proofs.Groups.{group_of, item_of}
 use Rattle.laws.proofs.Lists.{past_end}
 use Rattle.packets.specs.declared.Plan.{Plan}
@@ -127,7 +127,7 @@ module _ {p : Plan} {k : ℕ} {b tail sums old : List ℕ} (feed : BytesFeed p k
         narrow = plan_sane.narrow
 
         by : (j : ℕ) → j < 8 → Dec (j < fill) → Dec (j < fill + length b) → get_or tail' j 0 ≡ longer j
-        by j h (yes l) d = ap (λ (x : List ℕ). get_or x j 0) e ∙ stores-rest tail fill (length b) _ j (λ q. omega arith) ∙ sym (rw (lt-ltb j fill l))
+        by j h (yes l) d = ap (λ (x : List ℕ). get_or x j 0) e ∙ stores_rest tail fill (length b) _ j (λ q. omega arith) ∙ sym (rw (lt-ltb j fill l))
         by j h (no m) (yes l) =
             let there : fill + (j - fill) ≡ j = omega arith in
             ap (λ (x : List ℕ). get_or x j 0) e
@@ -135,7 +135,7 @@ module _ {p : Plan} {k : ℕ} {b tail sums old : List ℕ} (feed : BytesFeed p k
             ∙ sym (rw (le-ltb j fill (omega arith)))
         by j h (no m) (no g) =
             ap (λ (x : List ℕ). get_or x j 0) e
-            ∙ stores-rest tail fill (length b) _ j (λ q. omega arith)
+            ∙ stores_rest tail fill (length b) _ j (λ q. omega arith)
             ∙ tail_zero j (omega arith)
             ∙ sym (rw (le-ltb j fill (omega arith)) (past_end b (j - fill) (omega arith)))
 
@@ -252,7 +252,7 @@ module _ {p : Plan} {k : ℕ} {a tail sums old : List ℕ} (feed : BytesFeed p k
       by : (i : ℕ) → i < p.width → Dec (i < k % p.width) → get_or (part 0 p.width tail') i 0 ≡ get_or (came ++ a) i 0
       by i h (yes l) =
           at i h
-          ∙ stores-rest tail (k % p.width) (length a) _ i (λ q. omega arith)
+          ∙ stores_rest tail (k % p.width) (length a) _ i (λ q. omega arith)
           ∙ sym (get_or-append came a 0 i (rw came_long l) ∙ part_at 0 (k % p.width) tail i (omega arith) ∙ ap (λ (n : ℕ). get_or tail n 0) (zero-add i))
       by i h (no m) =
           let there : k % p.width + (i - k % p.width) ≡ i = omega arith in

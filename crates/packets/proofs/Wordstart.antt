@@ -71,17 +71,17 @@ module _ {p : Plan} {k : ℕ} {bytes tail sums old : List ℕ} (from : FromWord 
     words-fed : BytesFed p k (part 0 end bytes) tail sums (part 0 end old) tail one x
     words-fed = subst (λ (l : List ℕ). BytesFed p k (part 0 end bytes) l sums (part 0 end old) l one x) (sym empty) first
 
-    rest-feeds : BytesFeed p (k + end) rest tail one (part end (length (halfway end old x)) (halfway end old x))
-    rest-feeds = back-feeds from.feeds end end end_inside exact words-fed
+    rest_feeds : BytesFeed p (k + end) rest tail one (part end (length (halfway end old x)) (halfway end old x))
+    rest_feeds = back-feeds from.feeds end end end_inside exact words-fed
 
-    rest-begins : (k + end) % p.width ≡ 0
-    rest-begins = ap (λ (n : ℕ). (k + n) % p.width) end_is ∙ add-mul-mod_self_right k (length bytes / p.width) p.width ∙ from.begins
+    rest_begins : (k + end) % p.width ≡ 0
+    rest_begins = ap (λ (n : ℕ). (k + n) % p.width) end_is ∙ add-mul-mod_self_right k (length bytes / p.width) p.width ∙ from.begins
 
-    rest-short : (k + end) % p.width + length rest < p.width
-    rest-short = omega (arith, over, rest-begins, length_part end (length bytes) bytes end_inside (omega arith), mod-lt (length bytes) sane.good.wide, mod-le (length bytes) p.width)
+    rest_short : (k + end) % p.width + length rest < p.width
+    rest_short = omega (arith, over, rest_begins, length_part end (length bytes) bytes end_inside (omega arith), mod-lt (length bytes) sane.good.wide, mod-le (length bytes) p.width)
 
-    pub rest-fits : HoldFits rest 0 tail
-    rest-fits = record { room = omega (arith, rest-short, sane.narrow, from.feeds.tails) }
+    pub rest_fits : HoldFits rest 0 tail
+    rest_fits = record { room = omega (arith, rest_short, sane.narrow, from.feeds.tails) }
 
-    pub rest-held : {tail' : List ℕ} → Held rest 0 tail tail' → BytesFed p k bytes tail sums old tail' one (halfway end old x)
-    rest-held {tail'} e = quiet_feds from.feeds end end end_inside exact words-fed (hold_fed rest-feeds rest-short (subst (λ (f : ℕ). Held rest f tail tail') (sym rest-begins) e))
+    pub rest_held : {tail' : List ℕ} → Held rest 0 tail tail' → BytesFed p k bytes tail sums old tail' one (halfway end old x)
+    rest_held {tail'} e = quiet_feds from.feeds end end end_inside exact words-fed (hold_fed rest_feeds rest_short (subst (λ (f : ℕ). Held rest f tail tail') (sym rest_begins) e))

@@ -4,19 +4,16 @@ use Rattle.std.specs.Prelude.{ℕ, ◌+◌, ◌-◌, ◌*◌, ◌/◌, ◌%◌, 
 use Rattle.answer.specs.Outcome.{Outcome, done, refused, Fault, unless, invalid, output_too_small, limit, number, instead, Promise, done_outcome}
 use Rattle.answer.specs.Table.{table}
 use Rattle.answer.specs.declared.Done.{Done}
-use Rattle.answer.specs.declared.Refusal.{Refusal}
 use Rattle.words.specs.Word.{Bytes}
 use Rattle.samples.specs.Sample.{stored_at}
 use Rattle.samples.specs.Promises.{strip_faults}
 use Rattle.packets.specs.declared.Plan.{Plan}
-use Rattle.packets.specs.declared.Position.{Position}
 use Rattle.packets.specs.declared.Packets.{Packets}
 use Rattle.packets.specs.declared.Started.{Started}
 use Rattle.packets.specs.declared.Stepped.{Stepped}
-use Rattle.packets.specs.declared.Moved.{Moved}
 use Rattle.packets.specs.declared.Wrote.{Wrote}
 use Rattle.packets.specs.declared.Wrote.TheVariants as WroteIs
-use Rattle.packets.specs.State.{geometry, sample_of, position_at, state_at, most, consistent, behind}
+use Rattle.packets.specs.State.{geometry, sample_of, state_at, most, consistent, behind}
 
 abbrev pub wrote_outcome : Wrote → Outcome ℕ
 wrote_outcome (WroteIs.Bytes n) = done n
@@ -31,17 +28,9 @@ no_sums = table 64 (λ j. 0)
 abbrev pub plan : ℕ → ℕ → ℕ → Bool → Bool → Bool → Plan
 plan row channels width le predict out_le = record { row_bytes = row; channels = channels; width = width; le = le; predict = predict; out_le = out_le }
 
--- a state as its parts
-abbrev pub parts : Plan → ℕ → Position → List ℕ → List ℕ → Packets
-parts p k position tail sums = record { plan = p; received = k; position = position; tail = tail; sums = sums }
-
--- one whose position is that of its bytes
-abbrev pub state : Plan → ℕ → List ℕ → List ℕ → Packets
-state p k tail sums = parts p k (position_at p k) tail sums
-
 -- the state of which every number is 0, to which nothing leads: what a refused start hands back
 unfoldable pub nowhere : Packets
-nowhere = parts (plan 0 0 0 false false false) 0 (record { row = 0; pixel = 0; channel = 0; samples = 0; across = 0 }) no_tail no_sums
+nowhere = record { plan = plan 0 0 0 false false false; received = 0; tail = no_tail; sums = no_sums }
 
 -- starting: `convert`'s refusals for the geometry of an empty strip
 abbrev pub starting : Plan → Outcome (Unit {0})
@@ -72,6 +61,10 @@ pub record Took (st : Packets) (piece old : List ℕ) (r : Stepped) (new : List 
   pub writes : Promise (unless (piece_faults st piece old) (completes st (length piece))) (table (completes st (length piece)) (continued_at st piece)) old (wrote_outcome r.answer) new
   pub state : r.state ≡ instead (unless (piece_faults st piece old) (completes st (length piece))) (continued st piece) st
 
+-- a state as its parts
+abbrev pub state : Plan → ℕ → List ℕ → List ℕ → Packets
+state p k tail sums = record { plan = p; received = k; tail = tail; sums = sums }
+
 -- a piece of a strip whose state's parts are lent: lists of other lengths are no state's
 abbrev pub lent_faults : Packets → List ℕ → List ℕ → List Fault
 lent_faults st piece old = invalid (not (eqb (length st.tail) 8)) ∷ invalid (not (eqb (length st.sums) 64)) ∷ piece_faults st piece old
@@ -79,13 +72,8 @@ lent_faults st piece old = invalid (not (eqb (length st.tail) 8)) ∷ invalid (n
 abbrev pub lent_taking : Packets → List ℕ → List ℕ → Outcome ℕ
 lent_taking st piece old = unless (lent_faults st piece old) (completes st (length piece))
 
--- a position beside a refusal
-abbrev pub stayed : Position → Refusal → Moved
-stayed position kind = record { position = position; answer = WroteIs.Refused kind }
-
-pub record TookLent (st : Packets) (piece old : List ℕ) (r : Moved) (tail sums new : List ℕ) : Type 0 where
-  pub writes : Promise (lent_taking st piece old) (table (completes st (length piece)) (continued_at st piece)) old (wrote_outcome r.answer) new
-  pub position_is : r.position ≡ instead (lent_taking st piece old) (continued st piece).position st.position
+pub record TookLent (st : Packets) (piece old : List ℕ) (answer : Wrote) (tail sums new : List ℕ) : Type 0 where
+  pub writes : Promise (lent_taking st piece old) (table (completes st (length piece)) (continued_at st piece)) old (wrote_outcome answer) new
   pub tails : tail ≡ instead (lent_taking st piece old) (continued st piece).tail st.tail
   pub sums_are : sums ≡ instead (lent_taking st piece old) (continued st piece).sums st.sums
 

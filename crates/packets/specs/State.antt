@@ -7,7 +7,6 @@ use Rattle.samples.specs.Sample.{Strip, strip, sample, stored_at}
 use Rattle.samples.specs.Promises.{strip_faults}
 use Rattle.laws.specs.Turns.{every}
 use Rattle.packets.specs.declared.Plan.{Plan}
-use Rattle.packets.specs.declared.Position.{Position}
 use Rattle.packets.specs.declared.Packets.{Packets}
 
 abbrev pub geometry : Plan → Strip
@@ -41,21 +40,9 @@ tail_of p s k = table 8 (tail_at p s k)
 unfoldable pub sums_of : Plan → List ℕ → ℕ → List ℕ
 sums_of p s k = table 64 (sum_at p s k)
 
--- how many pixels a row has
-abbrev pub across_of : Plan → ℕ
-across_of p = p.row_bytes / (p.channels * p.width)
-
--- the position of sample n, in rows of so many pixels: its row, its pixel of the row, its channel, and the samples before it
-unfoldable pub position_of : ℕ → ℕ → ℕ → Position
-position_of channels across n = record { row = n / channels / across; pixel = n / channels % across; channel = n % channels; samples = n; across = across }
-
--- after the first k bytes: that of the next sample
-abbrev pub position_at : Plan → ℕ → Position
-position_at p k = position_of p.channels (across_of p) (k / p.width)
-
 -- so a state is this, and nothing else of the bytes is kept
 unfoldable pub state_at : Plan → List ℕ → ℕ → Packets
-state_at p s k = record { plan = p; received = k; position = position_at p k; tail = tail_of p s k; sums = sums_of p s k }
+state_at p s k = record { plan = p; received = k; tail = tail_of p s k; sums = sums_of p s k }
 
 -- the most bytes that a strip may have
 abbrev pub most : ℕ
@@ -85,21 +72,13 @@ tails_right tail begun = every 8 (tail_right tail begun)
 unfoldable pub sums_right : List ℕ → ℕ → ℕ → Bool
 sums_right sums width begun = every 64 (sum_right sums width begun)
 
-abbrev pub same_position : Position → Position → Bool
-same_position a b = eqb a.row b.row && (eqb a.pixel b.pixel && (eqb a.channel b.channel && (eqb a.samples b.samples && eqb a.across b.across)))
-
--- the position is that of the bytes that have come
-unfoldable pub placed : Packets → Bool
-placed st = same_position st.position (position_at st.plan st.received)
-
--- the check: a geometry that a start takes, no more bytes than a strip may have, their position, and no number where there is none
+-- the check: a geometry that a start takes, no more bytes than a strip may have, and no number where there is none
 unfoldable pub consistent : Packets → Bool
 consistent st =
     clear (strip_faults 0 (geometry st.plan))
     && (not (ltb most st.received)
-    && (placed st
     && (tails_right st.tail (st.received % st.plan.width)
-    && sums_right st.sums st.plan.width (live st))))
+    && sums_right st.sums st.plan.width (live st)))
 
 -- a strip that leads to a state that passes the check: every row begins with the sums and goes on with zeros, and the tail stands at the end.
 -- (`behind_leads` says so; proofs/Future.antt that it does not matter which such strip is taken.)

@@ -1,11 +1,10 @@
 -- What the functions that take a piece's bytes need and do. Assumes nothing.
-use Rattle.std.specs.Prelude.{ℕ, ◌+◌, ◌-◌, ◌*◌, ◌/◌, ◌%◌, ◌≤◌, ◌<◌, ◌≡◌, true, List, eqb, length, get_or}
+use Rattle.std.specs.Prelude.{ℕ, ◌+◌, ◌-◌, ◌%◌, ◌≤◌, ◌≡◌, true, List, eqb, length, get_or}
 use Rattle.answer.specs.Outcome.{pick}
 use Rattle.answer.specs.Table.{table, filled, stores}
 use Rattle.packets.specs.declared.Plan.{Plan}
-use Rattle.packets.specs.declared.Position.{Position}
 use Rattle.packets.specs.declared.Packets.{Packets}
-use Rattle.packets.specs.State.{per_row, position_of, most, consistent}
+use Rattle.packets.specs.State.{most, consistent}
 use Rattle.packets.specs.Promises.{no_tail, state, completes, continued_at, continued}
 
 -- what a state and a piece need, and what is done with them
@@ -36,49 +35,33 @@ pub record WordsFeed (p : Plan) (k : ℕ) (raw sums out : List ℕ) : Type 0 whe
 abbrev pub WordsFed : Plan → ℕ → List ℕ → List ℕ → List ℕ → List ℕ → List ℕ → Type 0
 WordsFed p k raw sums old sums' new = BytesFed p k raw no_tail sums old no_tail sums' new
 
--- where the next word stands: its channel, and the bytes of its row from it on
-pub record Spot (p : Plan) (k first left : ℕ) : Type 0 where
-  pub channel : first ≡ k / p.width % per_row p % p.channels
-  pub rest : left + k / p.width % per_row p * p.width ≡ p.row_bytes
-
-pub record SpottedWords (p : Plan) (k first left : ℕ) (raw sums out : List ℕ) : Type 0 where
-  pub feed : WordsFeed p k raw sums out
-  pub spot : Spot p k first left
-
-pub record SpottedBytes (p : Plan) (k first left : ℕ) (bytes tail sums out : List ℕ) : Type 0 where
-  pub feeds : BytesFeed p k bytes tail sums out
-  pub spot : Spot p k first left
-
--- with prediction; from a row's start on
-pub record Predicted (p : Plan) (k first left : ℕ) (raw sums out : List ℕ) : Type 0 where
+-- with prediction; from a row's start on; of one row
+pub record Predicted (p : Plan) (k : ℕ) (raw sums out : List ℕ) : Type 0 where
   pub feed : WordsFeed p k raw sums out
   pub on : p.predict ≡ true
-  pub spot : Spot p k first left
 
 pub record RowsWords (p : Plan) (k : ℕ) (raw sums out : List ℕ) : Type 0 where
-  pub feed : WordsFeed p k raw sums out
-  pub on : p.predict ≡ true
+  pub predicted : Predicted p k raw sums out
   pub row_starts : k % p.row_bytes ≡ 0
 
--- of one row; up to the row's end, and past it
-pub record RowWords (p : Plan) (k first left : ℕ) (raw sums out : List ℕ) : Type 0 where
-  pub predicted : Predicted p k first left raw sums out
-  pub inside : length raw ≤ left
+pub record RowWords (p : Plan) (k place : ℕ) (raw sums out : List ℕ) : Type 0 where
+  pub predicted : Predicted p k raw sums out
+  pub there : place ≡ k % p.row_bytes
+  pub inside : k % p.row_bytes + length raw ≤ p.row_bytes
 
-pub record Across (p : Plan) (k first left : ℕ) (raw sums out : List ℕ) : Type 0 where
-  pub predicted : Predicted p k first left raw sums out
-  pub enough : left ≤ length raw
+-- up to the row's end, and past it
+pub record Across (p : Plan) (k : ℕ) (raw sums out : List ℕ) : Type 0 where
+  pub predicted : Predicted p k raw sums out
+  pub enough : p.row_bytes - k % p.row_bytes ≤ length raw
 
 -- one word
-pub record OneWord (p : Plan) (k first left : ℕ) (raw sums out : List ℕ) : Type 0 where
+pub record OneWord (p : Plan) (k : ℕ) (raw sums out : List ℕ) : Type 0 where
   pub feed : WordsFeed p k raw sums out
-  pub spot : Spot p k first left
   pub one : length raw ≡ p.width
 
 -- from a word's start on
-pub record FromWord (p : Plan) (k first left : ℕ) (bytes tail sums out : List ℕ) : Type 0 where
+pub record FromWord (p : Plan) (k : ℕ) (bytes tail sums out : List ℕ) : Type 0 where
   pub feeds : BytesFeed p k bytes tail sums out
-  pub spot : Spot p k first left
   pub begins : k % p.width ≡ 0
 
 -- the bytes that a word lacks of which some have come
@@ -86,29 +69,10 @@ abbrev pub missing : ℕ → ℕ → ℕ
 missing fill width = pick (eqb fill 0) 0 (width - fill)
 
 -- those, and no others
-pub record Finishes (p : Plan) (k fill first left : ℕ) (bytes tail sums out : List ℕ) : Type 0 where
+pub record Finishes (p : Plan) (k fill : ℕ) (bytes tail sums out : List ℕ) : Type 0 where
   pub feeds : BytesFeed p k bytes tail sums out
-  pub spot : Spot p k first left
   pub cut : fill ≡ k % p.width
   pub ends : length bytes ≡ missing fill p.width
-
--- a position of which the row, the pixel and the channel are to be looked at
-pub record Reachable (channels : ℕ) (position : Position) : Type 0 where
-  pub some : 0 < channels
-  pub few : channels ≤ 64
-  pub short : position.samples ≤ most
-
--- a position that is right moves on by so many samples
-pub record Moves (position : Position) (channels more : ℕ) : Type 0 where
-  pub right : position ≡ position_of channels position.across position.samples
-  pub some : 0 < channels
-  pub wide : 0 < position.across
-  pub short : position.samples + more ≤ most
-
--- a pixel and a channel of a row of so many bytes
-pub record LeftFits (row pixel channel channels width : ℕ) : Type 0 where
-  pub inside : (pixel * channels + channel) * width ≤ row
-  pub long : row < 18446744073709551616
 
 -- nothing is left in a list
 abbrev pub Cleared : List ℕ → List ℕ → Type 0

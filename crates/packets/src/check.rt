@@ -1,16 +1,14 @@
-// Whether a start and pieces lead to a state. Nothing is divided: what a division would give is stored, and a product tells whether it is right.
-ghost use Rattle.std.specs.Prelude.{◌≡◌, true, ◌||◌, ◌&&◌, ◌+◌, ◌*◌, ◌/◌, ◌≤◌, eqb, length, get_or};
+// Whether a start and pieces lead to a state.
+ghost use Rattle.std.specs.Prelude.{◌≡◌, true, ◌||◌, ◌+◌, ◌≤◌, eqb, ltb, length, get_or};
 ghost use Rattle.answer.specs.Outcome.{pick};
 ghost use Rattle.words.specs.Word.{modulus};
 ghost use Rattle.words.specs.Promises.{served};
-ghost use Rattle.samples.specs.Sample.{strip};
-ghost use Rattle.samples.specs.Promises.{strip_faults};
 ghost use Rattle.laws.specs.Turns.{every};
-ghost use Rattle.packets.specs.State.{most, clear, position_of, same_position, sum_right, tails_right, sums_right, consistent};
-ghost use Rattle.packets.specs.Promises.{plan, parts};
-ghost use Rattle.packets.specs.Steps.{Reachable};
+ghost use Rattle.packets.specs.State.{sum_right, tails_right, sums_right, consistent};
+ghost use Rattle.packets.specs.Promises.{plan, state};
 
-use crate::{Position, feed};
+use crate::feed;
+use answer::Done;
 
 fn byte_right(x: u8, is_live: bool) -> bool
     ensures { result ≡ (is_live || eqb x 0) }
@@ -92,86 +90,13 @@ fn sums_right(sums: &[u64], width: usize, begun: usize) -> bool
     }
 }
 
-// Of the unfinished row the channels that have a sample, if it matters.
-fn begun_channels(predict: bool, pixel: usize, channel: usize, channels: usize) -> usize
-    ensures { result ≡ pick predict (pick (eqb pixel 0) channel channels) 0 }
+fn begun_channels(predict: bool, begun: usize, channels: usize) -> usize
+    ensures { result ≡ pick predict (pick (ltb begun channels) begun channels) 0 }
 {
     if !predict {
         return 0;
     }
-    if pixel == 0 { channel } else { channels }
-}
-
-// Whether a times b is c. The halves of a have products that do not wrap.
-fn is_product(a: usize, b: usize, c: usize) -> bool
-    requires { b ≤ 512 }
-    ensures { result ≡ eqb (a * b) c }
-{
-    let low = a % 4294967296 * b;
-    let high = a / 4294967296 * b + low / 4294967296;
-    (high == c / 4294967296) & (low % 4294967296 == c % 4294967296)
-}
-
-// Whether a start takes this geometry, and a row has so many pixels.
-fn starts(row_bytes: usize, channels: usize, width: usize, across: usize) -> bool
-    ensures { result ≡ (clear (strip_faults 0 (strip row_bytes channels width)) && eqb across (row_bytes / (channels * width))) }
-{
-    if !words::width_served(width) {
-        return false;
-    }
-    if channels == 0 {
-        return false;
-    }
-    if 64 < channels {
-        return false;
-    }
-    if row_bytes == 0 {
-        return false;
-    }
-    is_product(across, channels * width, row_bytes)
-}
-
-// Whether so many bytes have so many whole words.
-fn counted(received: usize, width: usize, samples: usize) -> bool
-    requires { (served width ≡ true) × (received ≤ most) }
-    ensures { result ≡ eqb samples (received / width) }
-{
-    if received < samples {
-        return false;
-    }
-    let words = samples * width;
-    if received < words {
-        return false;
-    }
-    received - words < width
-}
-
-// Whether so many samples lead to this row, pixel and channel.
-fn reached(channels: usize, position: Position) -> bool
-    requires { Reachable channels position }
-    ensures { result ≡ same_position position (position_of channels position.across position.samples) }
-{
-    if channels <= position.channel {
-        return false;
-    }
-    if position.across <= position.pixel {
-        return false;
-    }
-    let samples = position.samples;
-    if samples < position.pixel {
-        return false;
-    }
-    if samples < position.row {
-        return false;
-    }
-    if (samples < position.across) & (position.row != 0) {
-        return false;
-    }
-    let pixels = position.row * position.across + position.pixel;
-    if samples < pixels {
-        return false;
-    }
-    pixels * channels + position.channel == samples
+    if begun < channels { begun } else { channels }
 }
 
 // The numbers of a plan come one by one, and so stay in registers. Of the byte orders nothing is asked.
@@ -181,28 +106,23 @@ pub(crate) fn passes(
     width: usize,
     predict: bool,
     received: usize,
-    position: Position,
     tail: &[u8],
     sums: &[u64],
 ) -> bool
     requires { (length tail.now ≡ 8) × (length sums.now ≡ 64) }
-    ensures { result ≡ consistent (parts (plan row_bytes channels width true predict true) received position tail.now sums.now) }
+    ensures { result ≡ consistent (state (plan row_bytes channels width true predict true) received tail.now sums.now) }
 {
-    if !starts(row_bytes, channels, width, position.across) {
-        return false;
+    match samples::check_strip(0, row_bytes, channels, width) {
+        Done::Refused(_) => false,
+        Done::Done => {
+            if 1073741824 < received {
+                return false;
+            }
+            if !tail_right(tail, feed::past(received, width)) {
+                return false;
+            }
+            let begun = begun_channels(predict, feed::whole(received % row_bytes, width), channels);
+            sums_right(sums, width, begun)
+        }
     }
-    if 1073741824 < received {
-        return false;
-    }
-    if !counted(received, width, position.samples) {
-        return false;
-    }
-    if !reached(channels, position) {
-        return false;
-    }
-    if !tail_right(tail, feed::past(received, width)) {
-        return false;
-    }
-    let begun = begun_channels(predict, position.pixel, position.channel, channels);
-    sums_right(sums, width, begun)
 }

@@ -1,10 +1,9 @@
 // The bytes of a piece: the word that was cut is finished, then the row, then come whole rows, a begun row and a begun word.
-ghost use Rattle.std.specs.Prelude.{◌≡◌, true, ◌+◌, ◌-◌, ◌/◌, ◌%◌, ◌≤◌, ◌<◌, eqb};
-ghost use Rattle.answer.specs.Outcome.{pick};
+ghost use Rattle.std.specs.Prelude.{◌≡◌, true, ◌/◌, ◌%◌, ◌≤◌};
 ghost use Rattle.words.specs.Promises.{served};
-ghost use Rattle.packets.specs.Steps.{Cleared, HoldFits, Held, RowWords, RowsWords, Across, Predicted, OneWord, SpottedWords, WordsFed, FromWord, missing, Finishes, SpottedBytes, BytesFed};
+ghost use Rattle.packets.specs.Steps.{Cleared, HoldFits, Held, RowWords, RowsWords, Across, Predicted, OneWord, WordsFeed, WordsFed, FromWord, missing, Finishes, BytesFeed, BytesFed};
 
-use crate::{Plan, moving};
+use crate::Plan;
 
 // The words of so many bytes, and the bytes past them. Neither divides by a variable: a width that is not 3 is a power of two.
 pub(crate) fn whole(n: usize, width: usize) -> usize
@@ -51,19 +50,12 @@ fn hold(bytes: &[u8], fill: usize, tail: &mut [u8])
     }
 }
 
-// Words of one row, the first of them of channel `first`, of the row's last `left` bytes; at its end the sums begin anew.
-fn in_row(
-    plan: Plan,
-    received: usize,
-    first: usize,
-    left: usize,
-    raw: &[u8],
-    sums: &mut [u64],
-    out: &mut [u8],
-)
-    requires { RowWords plan received first left raw.now sums.old out.old }
+// Words of one row from a place in it on; at its end the sums begin anew.
+fn in_row(plan: Plan, received: usize, place: usize, raw: &[u8], sums: &mut [u64], out: &mut [u8])
+    requires { RowWords plan received place raw.now sums.old out.old }
     ensures { WordsFed plan received raw.now sums.old out.old sums.new out.new }
 {
+    let first = whole(place, plan.width) % plan.channels;
     rows::resume_row(
         raw,
         first,
@@ -74,7 +66,7 @@ fn in_row(
         sums,
         out,
     );
-    if raw.len() == left {
+    if place + raw.len() == plan.row_bytes {
         clear(sums)
     }
 }
@@ -85,7 +77,7 @@ fn from_row(plan: Plan, received: usize, raw: &[u8], sums: &mut [u64], out: &mut
     ensures { WordsFed plan received raw.now sums.old out.old sums.new out.new }
 {
     let start: usize = 0;
-    let rows = raw.len() - moving::past_rows(raw.len(), plan.row_bytes);
+    let rows = raw.len() - raw.len() % plan.row_bytes;
     strips::convert(
         &raw[start..rows],
         plan.row_bytes,
@@ -100,7 +92,6 @@ fn from_row(plan: Plan, received: usize, raw: &[u8], sums: &mut [u64], out: &mut
         plan,
         received + rows,
         0,
-        plan.row_bytes,
         &raw[rows..],
         sums,
         &mut out[rows..],
@@ -108,27 +99,20 @@ fn from_row(plan: Plan, received: usize, raw: &[u8], sums: &mut [u64], out: &mut
 }
 
 // Words that reach the row's end: it is finished first.
-fn across(
-    plan: Plan,
-    received: usize,
-    first: usize,
-    left: usize,
-    raw: &[u8],
-    sums: &mut [u64],
-    out: &mut [u8],
-)
-    requires { Across plan received first left raw.now sums.old out.old }
+fn across(plan: Plan, received: usize, raw: &[u8], sums: &mut [u64], out: &mut [u8])
+    requires { Across plan received raw.now sums.old out.old }
     ensures { WordsFed plan received raw.now sums.old out.old sums.new out.new }
 {
-    if left == plan.row_bytes {
+    let place = received % plan.row_bytes;
+    if place == 0 {
         return from_row(plan, received, raw, sums, out);
     }
     let start: usize = 0;
+    let left = plan.row_bytes - place;
     in_row(
         plan,
         received,
-        first,
-        left,
+        place,
         &raw[start..left],
         sums,
         &mut out[start..left],
@@ -137,39 +121,24 @@ fn across(
 }
 
 // Words with prediction.
-fn predicted(
-    plan: Plan,
-    received: usize,
-    first: usize,
-    left: usize,
-    raw: &[u8],
-    sums: &mut [u64],
-    out: &mut [u8],
-)
-    requires { Predicted plan received first left raw.now sums.old out.old }
+fn predicted(plan: Plan, received: usize, raw: &[u8], sums: &mut [u64], out: &mut [u8])
+    requires { Predicted plan received raw.now sums.old out.old }
     ensures { WordsFed plan received raw.now sums.old out.old sums.new out.new }
 {
-    if raw.len() < left {
-        return in_row(plan, received, first, left, raw, sums, out);
+    let place = received % plan.row_bytes;
+    if raw.len() < plan.row_bytes - place {
+        return in_row(plan, received, place, raw, sums, out);
     }
-    across(plan, received, first, left, raw, sums, out)
+    across(plan, received, raw, sums, out)
 }
 
 // Words: without prediction they need no row.
-fn words(
-    plan: Plan,
-    received: usize,
-    first: usize,
-    left: usize,
-    raw: &[u8],
-    sums: &mut [u64],
-    out: &mut [u8],
-)
-    requires { SpottedWords plan received first left raw.now sums.old out.old }
+fn words(plan: Plan, received: usize, raw: &[u8], sums: &mut [u64], out: &mut [u8])
+    requires { WordsFeed plan received raw.now sums.old out.old }
     ensures { WordsFed plan received raw.now sums.old out.old sums.new out.new }
 {
     if plan.predict {
-        return predicted(plan, received, first, left, raw, sums, out);
+        return predicted(plan, received, raw, sums, out);
     }
     samples::reorder(raw, plan.width, plan.le, plan.out_le, out);
 }
@@ -178,14 +147,12 @@ fn words(
 fn from_word(
     plan: Plan,
     received: usize,
-    first: usize,
-    left: usize,
     bytes: &[u8],
     tail: &mut [u8],
     sums: &mut [u64],
     out: &mut [u8],
 )
-    requires { FromWord plan received first left bytes.now tail.old sums.old out.old }
+    requires { FromWord plan received bytes.now tail.old sums.old out.old }
     ensures { BytesFed plan received bytes.now tail.old sums.old out.old tail.new sums.new out.new }
 {
     let start: usize = 0;
@@ -193,8 +160,6 @@ fn from_word(
     words(
         plan,
         received,
-        first,
-        left,
         &bytes[start..end],
         sums,
         &mut out[start..end],
@@ -203,20 +168,13 @@ fn from_word(
 }
 
 // One word, which lies in one row. Apart from `words`, so that the compiler has one place for those.
-fn word(
-    plan: Plan,
-    received: usize,
-    first: usize,
-    left: usize,
-    raw: &[u8],
-    sums: &mut [u64],
-    out: &mut [u8],
-)
-    requires { OneWord plan received first left raw.now sums.old out.old }
+fn word(plan: Plan, received: usize, raw: &[u8], sums: &mut [u64], out: &mut [u8])
+    requires { OneWord plan received raw.now sums.old out.old }
     ensures { WordsFed plan received raw.now sums.old out.old sums.new out.new }
 {
     if plan.predict {
-        return in_row(plan, received, first, left, raw, sums, out);
+        let place = received % plan.row_bytes;
+        return in_row(plan, received, place, raw, sums, out);
     }
     samples::reorder(raw, plan.width, plan.le, plan.out_le, out);
 }
@@ -226,14 +184,12 @@ fn finish(
     plan: Plan,
     received: usize,
     fill: usize,
-    first: usize,
-    left: usize,
     bytes: &[u8],
     tail: &mut [u8],
     sums: &mut [u64],
     out: &mut [u8],
 )
-    requires { Finishes plan received fill first left bytes.now tail.old sums.old out.old }
+    requires { Finishes plan received fill bytes.now tail.old sums.old out.old }
     ensures { BytesFed plan received bytes.now tail.old sums.old out.old tail.new sums.new out.new }
 {
     if fill == 0 {
@@ -243,15 +199,7 @@ fn finish(
     let width = plan.width;
     let none = [0u8; 8];
     hold(bytes, fill, tail);
-    word(
-        plan,
-        received - fill,
-        first,
-        left,
-        &tail[start..width],
-        sums,
-        out,
-    );
+    word(plan, received - fill, &tail[start..width], sums, out);
     hold(&none, 0, tail)
 }
 
@@ -263,43 +211,15 @@ fn missing(fill: usize, width: usize) -> usize
     if fill == 0 { 0 } else { width - fill }
 }
 
-// The channel past the word that was cut, if one was.
-fn next_channel(fill: usize, first: usize, channels: usize) -> usize
-    requires { first < channels }
-    ensures { result ≡ pick (eqb fill 0) first (pick (eqb (first + 1) channels) 0 (first + 1)) }
-{
-    if fill == 0 {
-        return first;
-    }
-    if first + 1 == channels { 0 } else { first + 1 }
-}
-
-// The bytes of a row past that word: all of the next row where it was the last.
-fn next_left(fill: usize, left: usize, width: usize, row_bytes: usize) -> usize
-    requires { width ≤ left }
-    ensures { result ≡ pick (eqb fill 0) left (pick (eqb left width) row_bytes (left - width)) }
-{
-    if fill == 0 {
-        return left;
-    }
-    if left == width {
-        row_bytes
-    } else {
-        left - width
-    }
-}
-
 pub(crate) fn feed(
     plan: Plan,
     received: usize,
-    first: usize,
-    left: usize,
     bytes: &[u8],
     tail: &mut [u8],
     sums: &mut [u64],
     out: &mut [u8],
 )
-    requires { SpottedBytes plan received first left bytes.now tail.old sums.old out.old }
+    requires { BytesFeed plan received bytes.now tail.old sums.old out.old }
     ensures { BytesFed plan received bytes.now tail.old sums.old out.old tail.new sums.new out.new }
 {
     let fill = past(received, plan.width);
@@ -313,8 +233,6 @@ pub(crate) fn feed(
         plan,
         received,
         fill,
-        first,
-        left,
         &bytes[start..head],
         tail,
         sums,
@@ -323,8 +241,6 @@ pub(crate) fn feed(
     from_word(
         plan,
         received + head,
-        next_channel(fill, first, plan.channels),
-        next_left(fill, left, plan.width, plan.row_bytes),
         &bytes[head..],
         tail,
         sums,

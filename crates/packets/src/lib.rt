@@ -4,10 +4,9 @@
 
 mod check;
 mod feed;
-mod moving;
 
 ghost use Rattle.std.specs.Prelude.{◌≡◌};
-ghost use Rattle.packets.specs.Promises.{nowhere, plan as plan_of, parts, stayed, Begun, Took, TookLent, Closed};
+ghost use Rattle.packets.specs.Promises.{nowhere, plan as plan_of, state, Begun, Took, TookLent, Closed};
 
 use answer::{Done, Refusal};
 
@@ -22,24 +21,11 @@ pub struct Plan {
     pub out_le: bool,
 }
 
-// Where the next sample stands: the rows that are finished, the pixel of its row, its channel, the samples that are finished, and the pixels
-// of a row.
-#[derive(Drop)]
-pub struct Position {
-    pub row: usize,
-    pub pixel: usize,
-    pub channel: usize,
-    pub samples: usize,
-    pub across: usize,
-}
-
-// The state of a conversion: the bytes that have come, where the next sample stands, the bytes of the unfinished word, and the sum so far of
-// each channel of the unfinished row.
+// The state of a conversion: the bytes that have come, those of the unfinished word, and the sum so far of each channel of the unfinished row.
 #[derive(Drop)]
 pub struct Packets {
     pub plan: Plan,
     pub received: usize,
-    pub position: Position,
     pub tail: [u8; 8],
     pub sums: [u64; 64],
 }
@@ -62,12 +48,6 @@ pub struct Stepped {
     pub answer: Wrote,
 }
 
-#[derive(Drop)]
-pub struct Moved {
-    pub position: Position,
-    pub answer: Wrote,
-}
-
 fn nothing() -> Packets
     ensures { result ≡ nowhere }
 {
@@ -81,49 +61,31 @@ fn nothing() -> Packets
         predict: false,
         out_le: false,
     };
-    let position = Position {
-        row: 0,
-        pixel: 0,
-        channel: 0,
-        samples: 0,
-        across: 0,
-    };
     Packets {
         plan: plan,
         received: 0,
-        position: position,
         tail: tail,
         sums: sums,
     }
 }
 
-fn refused(position: Position, kind: Refusal) -> Moved
-    ensures { result ≡ stayed position kind }
-{
-    Moved {
-        position: position,
-        answer: Wrote::Refused(kind),
-    }
-}
-
 // The next bytes of a strip, as `Packets::piece` takes them, on a state whose parts are lent: the bytes of the unfinished word and the sums are
-// altered where they stand, and the position is handed back.
+// altered where they stand.
 pub fn lent_piece(
     plan: Plan,
     received: usize,
-    position: Position,
     bytes: &[u8],
     tail: &mut [u8],
     sums: &mut [u64],
     out: &mut [u8],
-) -> Moved
-    ensures { TookLent (parts plan received position tail.old sums.old) bytes.now out.old result tail.new sums.new out.new }
+) -> Wrote
+    ensures { TookLent (state plan received tail.old sums.old) bytes.now out.old result tail.new sums.new out.new }
 {
     if tail.len() != 8 {
-        return refused(position, Refusal::Invalid);
+        return Wrote::Refused(Refusal::Invalid);
     }
     if sums.len() != 64 {
-        return refused(position, Refusal::Invalid);
+        return Wrote::Refused(Refusal::Invalid);
     }
     if !check::passes(
         plan.row_bytes,
@@ -131,41 +93,21 @@ pub fn lent_piece(
         plan.width,
         plan.predict,
         received,
-        position,
         tail,
         sums,
     ) {
-        return refused(position, Refusal::Invalid);
+        return Wrote::Refused(Refusal::Invalid);
     }
     if 1073741824 - received < bytes.len() {
-        return refused(position, Refusal::Limit);
+        return Wrote::Refused(Refusal::Limit);
     }
-    let words = feed::whole(feed::past(received, plan.width) + bytes.len(), plan.width);
-    if out.len() < words * plan.width {
-        return refused(position, Refusal::OutputTooSmall);
+    let begun = feed::past(received, plan.width) + bytes.len();
+    let completes = begun - feed::past(begun, plan.width);
+    if out.len() < completes {
+        return Wrote::Refused(Refusal::OutputTooSmall);
     }
-    let left = moving::left_in_row(
-        plan.row_bytes,
-        position.pixel,
-        position.channel,
-        plan.channels,
-        plan.width,
-    );
-    feed::feed(
-        plan,
-        received,
-        position.channel,
-        left,
-        bytes,
-        tail,
-        sums,
-        out,
-    );
-    let after = moving::moved(position, plan.channels, words);
-    Moved {
-        position: after,
-        answer: Wrote::Bytes(words * plan.width),
-    }
+    feed::feed(plan, received, bytes, tail, sums, out);
+    Wrote::Bytes(completes)
 }
 
 impl Packets {
@@ -195,19 +137,11 @@ impl Packets {
                     predict: predict,
                     out_le: out_le,
                 };
-                let position = Position {
-                    row: 0,
-                    pixel: 0,
-                    channel: 0,
-                    samples: 0,
-                    across: row_bytes / (channels * width),
-                };
                 let tail = state.tail;
                 let sums = state.sums;
                 let begun = Packets {
                     plan: plan,
                     received: 0,
-                    position: position,
                     tail: tail,
                     sums: sums,
                 };
@@ -226,27 +160,16 @@ impl Packets {
         let plan = self.plan;
         let mut tail = self.tail;
         let mut sums = self.sums;
-        let taken = lent_piece(
-            plan,
-            self.received,
-            self.position,
-            bytes,
-            &mut tail,
-            &mut sums,
-            out,
-        );
-        let answer = taken.answer;
+        let answer = lent_piece(plan, self.received, bytes, &mut tail, &mut sums, out);
         match answer {
             Wrote::Refused(kind) => Stepped {
                 state: self,
                 answer: Wrote::Refused(kind),
             },
             Wrote::Bytes(n) => {
-                let position = taken.position;
                 let state = Packets {
                     plan: plan,
                     received: self.received + bytes.len(),
-                    position: position,
                     tail: tail,
                     sums: sums,
                 };
@@ -263,7 +186,6 @@ impl Packets {
         ensures { Closed self result }
     {
         let plan = self.plan;
-        let position = self.position;
         let tail = self.tail;
         let sums = self.sums;
         if !check::passes(
@@ -272,13 +194,12 @@ impl Packets {
             plan.width,
             plan.predict,
             self.received,
-            position,
             &tail,
             &sums,
         ) {
             return Done::Refused(Refusal::Invalid);
         }
-        if position.row * plan.row_bytes != self.received {
+        if self.received % plan.row_bytes != 0 {
             return Done::Refused(Refusal::Invalid);
         }
         Done::Done

@@ -8,7 +8,7 @@ use native.Mathlib.Omega.{arith}
 use borrow.Author.Tests.{eq-eqb, ne_eqb}
 use lib.ListN.{length, get_or}
 use Rattle.answer.specs.Table.{filled}
-use Rattle.answer.proofs.Filling.{length-filled, filled_keep, filled-rest, stores-filled}
+use Rattle.answer.proofs.Filling.{length-filled, filled_keep, filled_rest, stores-filled}
 use Rattle.laws.proofs.Groups.{group_room, into_group}
 use Rattle.pixels.specs.Render.{straight_colour}
 use Rattle.pixels.specs.Finish.{share_of, straight_at, PixelGiven, WholePixels, PixelStraightened, PixelsStraightened}
@@ -36,7 +36,7 @@ module _ {old : List ℕ} {channels : ℕ} {multiplied white : Bool} {at : ℕ} 
       let some = whole.some in
       let room : at + channels ≤ length old = omega (arith, pixel_room more, is.same) in
       let f = straight_at old channels multiplied white in
-      let unread : (c : ℕ) → get_or s (at + c) 0 ≡ get_or old (at + c) 0 = λ c. ap (λ (l : List ℕ). get_or l (at + c) 0) is.so_far ∙ filled-rest at f old (at + c) (omega arith) in
+      let unread : (c : ℕ) → get_or s (at + c) 0 ≡ get_or old (at + c) 0 = λ c. ap (λ (l : List ℕ). get_or l (at + c) 0) is.so_far ∙ filled_rest at f old (at + c) (omega arith) in
       let colours : (p : ℕ) → p < last → straight_colour multiplied white (get_or s (at + p) 0) (get_or s (at + last) 0) ≡ f (at + p) =
       λ p h.
       let alpha : at + p - p + channels - 1 ≡ at + last = omega arith in

@@ -13,7 +13,7 @@ use Rattle.answer.specs.Outcome.{Sound, next, none, done, pick, xor}
 use Rattle.answer.specs.Table.{table}
 use Rattle.answer.specs.declared.Done.{Done}
 use Rattle.answer.specs.declared.Done.TheVariants as DoneIs
-use Rattle.answer.proofs.Promised.{writes, stays, done-sound, sound-done, done_once, sound-front, sound-here, sound-rest, sound_back, sound_more}
+use Rattle.answer.proofs.Promised.{writes, stays, done-sound, sound-done, done_once, sound-front, sound-here, sound_rest, sound_back, sound_more}
 use Rattle.answer.proofs.Filling.{length-table, table_at, table_same}
 use Rattle.words.specs.Word.{Bytes}
 use Rattle.layout.specs.declared.RasterLayout.{RasterLayout}
@@ -52,13 +52,13 @@ module _ (l : RasterLayout) (picture old planes : List ℕ) (w : Written l pictu
   no_palette = sound-here planes-sound
 
   not_multiplied : eqb l.fields.alpha 1 ≡ false
-  not_multiplied = sound-here (sound-rest (sound-rest planes-sound))
+  not_multiplied = sound-here (sound_rest (sound_rest planes-sound))
 
   picture_long : l.output_len ≤ length picture
-  picture_long = ltb-false (length picture) l.output_len (sound-here (sound-rest (sound-rest (sound-rest planes-sound))))
+  picture_long = ltb-false (length picture) l.output_len (sound-here (sound_rest (sound_rest (sound_rest planes-sound))))
 
   two_levels_lem : (eqb l.fields.slots 8 && not (two_levels l.output_len picture)) ≡ false
-  two_levels_lem = sound-here (sound-rest (sound-rest (sound-rest (sound-rest (sound-rest planes-sound)))))
+  two_levels_lem = sound-here (sound_rest (sound_rest (sound_rest (sound_rest (sound_rest planes-sound)))))
 
   planes-front : take l.scratch_len planes ≡ table l.scratch_len (written l picture)
   planes-front = ap (λ (n : ℕ). take n planes) (sym (length-table l.scratch_len (written l picture))) ∙ writes tt planes w
@@ -71,10 +71,10 @@ module _ (l : RasterLayout) (file : List ℕ) where
   written_renderable : (picture old planes old_out : List ℕ) → Written l picture old DoneIs.Done planes → l.output_len ≤ length old_out → Sound (render_faults l file planes old_out)
   written_renderable picture old planes old_out w room =
       let shown = planes-sound l picture old planes w in
-      let fits = ltb-false (length old) l.scratch_len (sound-here (sound-rest (sound-rest (sound-rest (sound-rest shown))))) in
+      let fits = ltb-false (length old) l.scratch_len (sound-here (sound_rest (sound_rest (sound_rest (sound_rest shown))))) in
       let same = stays (done tt) planes (omega (arith, length-table l.scratch_len (written l picture))) w in
       sound_more (record_sound l picture old planes w)
-      (next (sound-here (sound-rest shown))
+      (next (sound-here (sound_rest shown))
       (next (rw (no_palette l picture old planes w))
       (next (le-ltb (length planes) l.scratch_len (omega arith)) (next (le-ltb (length old_out) l.output_len room) none))))
 
@@ -113,7 +113,7 @@ module _ (l : RasterLayout) (file : List ℕ) where
 
     rendered_long : l.output_len ≤ length out
     rendered_long =
-        let room = ltb-false (length old) l.output_len (sound-here (sound-rest (sound-rest (sound-rest draw_sound)))) in
+        let room = ltb-false (length old) l.output_len (sound-here (sound_rest (sound_rest (sound_rest draw_sound)))) in
         let same = stays (done tt) out (omega (arith, length-table l.output_len (converted l file raw))) r in omega arith
 
     rendered_levels : l.fields.palette ≡ false → (eqb l.fields.slots 8 && not (two_levels l.output_len out)) ≡ false
@@ -159,5 +159,5 @@ module _ (l : RasterLayout) (file : List ℕ) where
   unfolding unpadded
   rendered_then_written-plain raw old out old_planes planes answer bytes off bare several room r w =
       let both = rendered_then_written raw old out old_planes planes answer bytes off bare room r w in
-      let long = ltb-false (length raw) l.scratch_len (sound-here (sound-rest (sound-rest (draw_sound raw old out r)))) in
+      let long = ltb-false (length raw) l.scratch_len (sound-here (sound_rest (sound_rest (draw_sound raw old out r)))) in
       (both.0, both.1 ∙ table_same l.scratch_len _ _ (λ i h. not_picked _ _ several) ∙ own_front l.scratch_len raw long)

@@ -59,11 +59,11 @@ module _ (le out_le : Bool) {raw : List ℕ} {first channels width : ℕ} {start
       part_word raw 0 c (i * width) width le (omega (arith, c_words, add-mul i 1 width, one-mul width, mul-le-mul_right {m = i + 1} {n = n} width (omega arith)))
       ∙ ap (λ (k : ℕ). word_at raw k width le) (zero-add (i * width))
 
-  rest-words : (length raw - c) % width ≡ 0
-  rest-words = sym (add-mul-mod_self_right (length raw - c) n width) ∙ ap (λ (k : ℕ). k % width) (omega (arith, c_words, inside)) ∙ fits.words
+  rest_words : (length raw - c) % width ≡ 0
+  rest_words = sym (add-mul-mod_self_right (length raw - c) n width) ∙ ap (λ (k : ℕ). k % width) (omega (arith, c_words, inside)) ∙ fits.words
 
-  rest-count : n + (length raw - c) / width ≡ length raw / width
-  rest-count = add_comm n ((length raw - c) / width) ∙ sym (add-mul-div_right (length raw - c) n wide) ∙ ap (λ (k : ℕ). k / width) (omega (arith, c_words, inside))
+  rest_count : n + (length raw - c) / width ≡ length raw / width
+  rest_count = add_comm n ((length raw - c) / width) ∙ sym (add-mul-div_right (length raw - c) n wide) ∙ ap (λ (k : ℕ). k / width) (omega (arith, c_words, inside))
 
   back-word : (i : ℕ) → i < (length raw - c) / width → word_of width le b i ≡ w (n + i)
   back-word i h =
@@ -109,7 +109,7 @@ module _ (le out_le : Bool) {raw : List ℕ} {first channels width : ℕ} {start
       here = h;
       held = fits.held;
       long = omega (arith, fits.long, ap length one-is, after-long first channels width w start n);
-      words = rw b-long rest-words;
+      words = rw b-long rest_words;
       same = length_part c (length out) out (omega (arith, out_long, fits.same)) (omega arith) ∙ omega (arith, out_long, fits.same, b-long);
     }
 
@@ -120,7 +120,7 @@ module _ (le out_le : Bool) {raw : List ℕ} {first channels width : ℕ} {start
           ∙ rw (b-long, fits.same)
           (table_same (length raw - c) _ _ (λ k h.
           let i = k / width in
-          let less : i < (length raw - c) / width = (div-lt_iff_lt-mul {k = width} {x = k} {y = (length raw - c) / width} wide).1 (omega (arith, div-add-mod' (length raw - c) width, rest-words)) in
+          let less : i < (length raw - c) / width = (div-lt_iff_lt-mul {k = width} {x = k} {y = (length raw - c) / width} wide).1 (omega (arith, div-add-mod' (length raw - c) width, rest_words)) in
           let at : c + k ≡ k + n * width = omega (arith, c_words) in
           let place : (first + (n + i)) % channels ≡ ((first + n) % channels + i) % channels = sym (mod-add-mod (first + n) channels i ∙ ap (λ (z : ℕ). z % channels) (add_assoc first n i)) in
           rw (at, add-mul-mod_self_right k n width, add-mul-div_right k n wide, add_comm i n)
@@ -136,7 +136,7 @@ module _ (le out_le : Bool) {raw : List ℕ} {first channels width : ℕ} {start
             ∙ rw (b-long, on, one-is)
             (after_same ((first + n) % channels) channels width (word_of width le b) (λ q. w (n + q)) _ ((length raw - c) / width) back-word
             ∙ after_on first channels width w start n ((length raw - c) / width)
-            ∙ ap (sums_after first channels width w start) rest-count);
+            ∙ ap (sums_after first channels width w start) rest_count);
         wrote = rw out_long (both_filled (resumed_at raw first channels width le out_le start) c old x y (omega (arith, fits.same)) x_is y_is) ∙ ap (λ (k : ℕ). table k (resumed_at raw first channels width le out_le start)) fits.same;
       }
 

@@ -5,7 +5,7 @@ use native.Mathlib.Nat.{mod-add-mod, add-mod_right, zero-div, add-div_right, mul
 use native.Mathlib.Decide.{dec_lt, ℕ_discrete}
 use Rattle.answer.specs.Outcome.{pick}
 use Rattle.answer.specs.Table.{table, filled}
-use Rattle.answer.proofs.Filling.{length-table, table_same, filled-all, filled-front, filled-rest, filled-same, length-filled}
+use Rattle.answer.proofs.Filling.{length-table, table_same, filled-all, filled-front, filled_rest, filled-same, length-filled}
 use Rattle.words.specs.Digits.{digit}
 use Rattle.words.specs.Word.{ordered, word_at, Put, plus}
 use Rattle.words.proofs.Words.{plus_below}
@@ -122,7 +122,7 @@ module _ (raw : List ℕ) (channels width : ℕ) (le : Bool) (start : List ℕ) 
           (rw place at (next_carried n room j h))
           ∙ (rw back at (carried_later raw channels width le start (n - channels + j)))
           ∙ sym (filled-front channels (λ j. resumed raw channels width le start (n - channels + j)) start j h)
-      by j (no m) = kept n j (omega arith) ∙ sym (filled-rest channels _ start j (omega arith))
+      by j (no m) = kept n j (omega arith) ∙ sym (filled_rest channels _ start j (omega arith))
 
 -- the last pixel, read back channel by channel
 pub record HeldTo (out : List ℕ) (last channels width : ℕ) (out_le : Bool) (old sums : List ℕ) (at channel : ℕ) : Type 0 where

@@ -8,7 +8,7 @@ use lib.ListN.{length, get_or, take}
 use lib.Dec.{eqb}
 use Rattle.answer.specs.Table.{table}
 use Rattle.answer.specs.declared.Done.TheVariants as DoneIs
-use Rattle.answer.proofs.Promised.{second_over_first, done-sound, sound-here, sound-rest}
+use Rattle.answer.proofs.Promised.{second_over_first, done-sound, sound-here, sound_rest}
 use Rattle.answer.proofs.Filling.{table_at, table_same, table_self}
 use Rattle.swaps.specs.Swapped.{mirror, swapped_at, swap_faults, Swapped}
 use Rattle.swaps.proofs.Mirror.{mirror_below, mirror-mirror}
@@ -24,5 +24,5 @@ swap_twice raw old x old' y width p q =
     let n = length raw in
     let sound = done-sound (swap_faults raw width old) tt tt (sym p.answers) in
     let some : 0 < width = omega (arith, eqb-false width 0 (sound-here sound)) in
-    let groups : n % width ≡ 0 = eqb-true (n % width) 0 (not-false (eqb (n % width) 0) (sound-here (sound-rest (sound-rest sound)))) in
+    let groups : n % width ≡ 0 = eqb-true (n % width) 0 (not-false (eqb (n % width) 0) (sound-here (sound_rest (sound_rest sound)))) in
     second_over_first n (swapped_at raw width) (λ l. swapped_at l width) old x old' y tt tt p q ∙ swapped_back raw width some groups

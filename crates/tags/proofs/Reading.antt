@@ -1,6 +1,6 @@
 -- From one tag of a directory to the next, and what was read of all. Assumes nothing.
 use Prim.Native.Nat.{◌<◌, ℕ}
-use Rattle.answer.proofs.Promised.{sound_back, sound-front, sound-here, sound-rest}
+use Rattle.answer.proofs.Promised.{sound_back, sound-front, sound-here, sound_rest}
 use Rattle.answer.specs.Outcome.{Sound, Step, none}
 use Rattle.answer.specs.declared.Done.{Done}
 use Rattle.entries.proofs.Seeking.{field_next, from_field}
@@ -58,7 +58,7 @@ strips_said file d sound =
     let from_samples = sound_back (field_faults size true true true t.offsets) _ from_offsets in
     let from_rows = sound_back (samples_faults size s t.samples) _ from_samples in
     let from_some = sound_back (field_faults size false true false t.rows) _ from_rows in
-    let from_same = sound_back (field_faults size true true true t.counts) _ (sound-rest from_some) in
-    let from_known = sound_back (field_faults size false false false t.planar) _ (sound-rest from_same) in
+    let from_same = sound_back (field_faults size true true true t.counts) _ (sound_rest from_some) in
+    let from_known = sound_back (field_faults size false false false t.planar) _ (sound_rest from_same) in
     let none : t.rows.value ≡ 0 → ⊥ = eqb-false t.rows.value 0 (sound-here from_some) in
-    record { some = omega (arith, none); all = eqb-true _ _ (not-false _ (sound-here (sound-rest from_known))) }
+    record { some = omega (arith, none); all = eqb-true _ _ (not-false _ (sound-here (sound_rest from_known))) }

@@ -5,7 +5,7 @@ use mathlib.Core.List.{List, ◌++◌}
 use native.Mathlib.Omega.{arith}
 use lib.ListN.{length, get_or, take, drop}
 use Rattle.answer.specs.Table.{table, filled}
-use Rattle.answer.proofs.Filling.{table_same, length-filled, filled-rest, part, length_part, part_at, halfway, front-filled, both_filled}
+use Rattle.answer.proofs.Filling.{table_same, length-filled, filled_rest, part, length_part, part_at, halfway, front-filled, both_filled}
 use Rattle.transport.specs.Moved.{reversed, Reversed}
 
 -- a part reversed, its bytes being old's from a on
@@ -19,5 +19,5 @@ both_reversed a old front back room first second =
     let before = part_reversed old old front 0 a (omega arith) room (λ k h. refl) first in
     let half : halfway a old front ≡ filled a f old = front-filled f a old front before in
     let long : length (halfway a old front) ≡ length old = ap length half ∙ length-filled a f old room in
-    let unread : (k : ℕ) → a ≤ k → get_or (halfway a old front) k 0 ≡ get_or old k 0 = λ k h. ap (λ (l : List ℕ). get_or l k 0) half ∙ filled-rest a f old k h in
+    let unread : (k : ℕ) → a ≤ k → get_or (halfway a old front) k 0 ≡ get_or old k 0 = λ k h. ap (λ (l : List ℕ). get_or l k 0) half ∙ filled_rest a f old k h in
     both_filled f a old front back room before (part_reversed old (halfway a old front) back a (length old) room (omega arith) unread second)

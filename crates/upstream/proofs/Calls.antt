@@ -7,7 +7,7 @@ use lib.ListN.{length, get_or}
 use Rattle.answer.specs.Outcome.{Outcome, done, refused, Fault, unless, Promise, Sound, First}
 use Rattle.answer.specs.Table.{table, filled}
 use Rattle.answer.proofs.Promised.{keeps, done-sound, sound-done, first-refused, finished}
-use Rattle.answer.proofs.Filling.{length-filled, filled-front, filled-rest}
+use Rattle.answer.proofs.Filling.{length-filled, filled-front, filled_rest}
 use Rattle.upstream.specs.Clause.{Ok}
 
 -- an answer to a list of faults
@@ -38,11 +38,11 @@ module _ {A : Type 0} {answer : Outcome A} (fs : List Fault) (a : A) (n : ℕ) (
   pub bytes-written : Ok answer → (k : ℕ) → k < n → get_or new k 0 ≡ f k
   bytes-written o k h = rw (written o) (filled-front n f old k h)
 
-  pub rest-kept : (k : ℕ) → n ≤ k → get_or new k 0 ≡ get_or old k 0
-  rest-kept k h = by answer refl
+  pub rest_kept : (k : ℕ) → n ≤ k → get_or new k 0 ≡ get_or old k 0
+  rest_kept k h = by answer refl
     where
       by : (x : Outcome A) → answer ≡ x → get_or new k 0 ≡ get_or old k 0
-      by (done b) e = rw (written (b, e)) (filled-rest n f old k h)
+      by (done b) e = rw (written (b, e)) (filled_rest n f old k h)
       by (refused m) e = rw (untouched m e)
 
   pub length-kept : (Sound fs → n ≤ length old) → length new ≡ length old

@@ -11,8 +11,8 @@ use lib.ListN.{length, get_or}
 use lib.Dec.{eqb, ltb}
 use Rattle.answer.specs.Outcome.{done, refused, pick, Sound, next, none, here, done_outcome, output_too_small}
 use Rattle.answer.specs.declared.Done.{Done}
-use Rattle.answer.proofs.Promised.{sound-here, sound-rest, sound-front, sound_more, sound_back}
-use Rattle.answer.proofs.Filling.{length-table, table_at, stores_at, stores-rest}
+use Rattle.answer.proofs.Promised.{sound-here, sound_rest, sound-front, sound_more, sound_back}
+use Rattle.answer.proofs.Filling.{length-table, table_at, stores_at, stores_rest}
 use Rattle.words.specs.Word.{Bytes, ordered, word_at, Put}
 use Rattle.words.specs.Promises.{served, word_outcome, loaded_outcome, read_faults, ReadWord, load_width, load_faults, LoadedWord}
 use Rattle.words.specs.declared.Word.{Word}
@@ -31,7 +31,7 @@ use Rattle.laws.proofs.Says.{held}
 use Rattle.upstream.specs.Native.{digit, width_ok, RangeOk, modulus, word, converted, Valid, reversed, value}
 use Rattle.upstream.specs.Clause.{Ok, Exactly}
 use Rattle.upstream.proofs.Same.{width_same, ordered_same, word16-same, word_same, modulus-same, converted-same, sound_valid, valid_sound, reversed-same}
-use Rattle.upstream.proofs.Calls.{ok_sound, sound_ok, sound-value, value-is, refused_for, untouched, bytes-written, rest-kept, length-kept}
+use Rattle.upstream.proofs.Calls.{ok_sound, sound_ok, sound-value, value-is, refused_for, untouched, bytes-written, rest_kept, length-kept}
 
 -- `width_ok_exec`
 pub width_ok_exactly : (width : ℕ) (r : Bool) → (width ≡ 3 → ⊥) → r ≡ served width → r ≡ width_ok width
@@ -45,7 +45,7 @@ module _ (s : List ℕ) (at width : ℕ) (le : Bool) (other : width ≡ 3 → �
       to : Ok (word_outcome answer) → (width_ok width ≡ true) × RangeOk (length s) at width
       to o =
           let t = ok_sound (read_faults s at width) (word_at s at width le) p o in
-          (width_same width other ∙ not-false (served width) (sound-here t), ltb-false (length s) (at + width) (sound-here (sound-rest t)))
+          (width_same width other ∙ not-false (served width) (sound-here t), ltb-false (length s) (at + width) (sound-here (sound_rest t)))
 
       back : (width_ok width ≡ true) × RangeOk (length s) at width → Ok (word_outcome answer)
       back v = sound_ok (read_faults s at width) (word_at s at width le) p (next (held (sym (width_same width other) ∙ v.0)) (next (le-ltb (length s) (at + width) v.1) none))
@@ -65,8 +65,8 @@ module _ (old : List ℕ) (at width : ℕ) (le : Bool) (v : ℕ) (new : List ℕ
   pub store_bytes : at + width ≤ length old → (j : ℕ) → j < width → get_or new (at + j) 0 ≡ digit v (pick le j (width - 1 - j))
   store_bytes room j h = rw p (stores_at old at width (λ q. digit v (ordered le width q)) j h room ∙ ap (digit v) (sym (ordered_same le width j)))
 
-  pub store_rest-kept : (k : ℕ) → (at ≤ k → at + width ≤ k) → get_or new k 0 ≡ get_or old k 0
-  store_rest-kept k away = rw p (stores-rest old at width _ k away)
+  pub store_rest_kept : (k : ℕ) → (at ≤ k → at + width ≤ k) → get_or new k 0 ≡ get_or old k 0
+  store_rest_kept k away = rw p (stores_rest old at width _ k away)
 
 -- `convert`
 module _ (raw : List ℕ) (g : Strip) (predict le out_le : Bool) (old : List ℕ) (answer : Done) (new : List ℕ) (p : Converted raw g predict le out_le old answer new) where
@@ -93,8 +93,8 @@ module _ (raw : List ℕ) (g : Strip) (predict le out_le : Bool) (old : List ℕ
       bytes-written (convert_faults raw g old) tt (length raw) (stored_at g.width out_le (Strips.sample g predict le raw)) old new p o k h
       ∙ sym (converted-same g predict le raw (sound_valid raw g other s).width good.channel words out_le k)
 
-  pub convert_rest-kept : (k : ℕ) → length raw ≤ k → get_or new k 0 ≡ get_or old k 0
-  convert_rest-kept = rest-kept (convert_faults raw g old) tt (length raw) (stored_at g.width out_le (Strips.sample g predict le raw)) old new p
+  pub convert_rest_kept : (k : ℕ) → length raw ≤ k → get_or new k 0 ≡ get_or old k 0
+  convert_rest_kept = rest_kept (convert_faults raw g old) tt (length raw) (stored_at g.width out_le (Strips.sample g predict le raw)) old new p
 
 -- `reverse_bits`
 module _ (old new : List ℕ) (p : Reversed old new) where
@@ -107,7 +107,7 @@ module _ (old new : List ℕ) (p : Reversed old new) where
 -- `swap_components`
 module _ (raw : List ℕ) (width : ℕ) (old : List ℕ) (answer : Done) (new : List ℕ) (p : Swapped raw width old answer new) where
   swap_room : Sound (swap_faults raw width old) → length raw ≤ length old
-  swap_room s = ltb-false (length old) (length raw) (sound-here (sound-rest (sound-rest (sound-rest s))))
+  swap_room s = ltb-false (length old) (length raw) (sound-here (sound_rest (sound_rest (sound_rest s))))
 
   pub swap_ok_exactly : Exactly (Ok (done_outcome answer)) ((((0 < width) × (width ≤ 8)) × (length raw % width ≡ 0)) × (length raw ≤ length old))
   swap_ok_exactly = (to, back)
@@ -115,7 +115,7 @@ module _ (raw : List ℕ) (width : ℕ) (old : List ℕ) (answer : Done) (new : 
       to : Ok (done_outcome answer) → (((0 < width) × (width ≤ 8)) × (length raw % width ≡ 0)) × (length raw ≤ length old)
       to o =
           let s = ok_sound (swap_faults raw width old) tt p.answers o in
-          (((omega (arith, eqb-false width 0 (sound-here s)), ltb-false 8 width (sound-here (sound-rest s))), eqb-true (length raw % width) 0 (not-false (eqb (length raw % width) 0) (sound-here (sound-rest (sound-rest s))))), swap_room s)
+          (((omega (arith, eqb-false width 0 (sound-here s)), ltb-false 8 width (sound-here (sound_rest s))), eqb-true (length raw % width) 0 (not-false (eqb (length raw % width) 0) (sound-here (sound_rest (sound_rest s))))), swap_room s)
 
       back : (((0 < width) × (width ≤ 8)) × (length raw % width ≡ 0)) × (length raw ≤ length old) → Ok (done_outcome answer)
       back v =
@@ -131,8 +131,8 @@ module _ (raw : List ℕ) (width : ℕ) (old : List ℕ) (answer : Done) (new : 
       bytes-written (swap_faults raw width old) tt (length raw) (swapped_at raw width) old new p o k h
       ∙ ap (λ (i : ℕ). get_or raw i 0) (omega (arith, mod-lt k some, mod-le k width))
 
-  pub swap_rest-kept : (k : ℕ) → length raw ≤ k → get_or new k 0 ≡ get_or old k 0
-  swap_rest-kept = rest-kept (swap_faults raw width old) tt (length raw) (swapped_at raw width) old new p
+  pub swap_rest_kept : (k : ℕ) → length raw ≤ k → get_or new k 0 ≡ get_or old k 0
+  swap_rest_kept = rest_kept (swap_faults raw width old) tt (length raw) (swapped_at raw width) old new p
 
 -- `load`
 module _ (s : List ℕ) (i : ℕ) (wide le : Bool) where
@@ -178,5 +178,5 @@ module _ (source old : List ℕ) (answer : Done) (new : List ℕ) (p : Committed
   pub commit_bytes : Ok (done_outcome answer) → (i : ℕ) → i < length source → get_or new i 0 ≡ get_or source i 0
   commit_bytes = bytes-written (commit_faults source old) tt (length source) (λ k. get_or source k 0) old new p
 
-  pub commit_rest-kept : (i : ℕ) → length source ≤ i → get_or new i 0 ≡ get_or old i 0
-  commit_rest-kept = rest-kept (commit_faults source old) tt (length source) (λ k. get_or source k 0) old new p
+  pub commit_rest_kept : (i : ℕ) → length source ≤ i → get_or new i 0 ≡ get_or old i 0
+  commit_rest_kept = rest_kept (commit_faults source old) tt (length source) (λ k. get_or source k 0) old new p

@@ -15,7 +15,7 @@ use Rattle.answer.specs.Outcome.{refused, Fault, pick, Sound, next, none, First,
 use Rattle.answer.specs.declared.ByteAt.{ByteAt}
 use Rattle.answer.specs.declared.Done.{Done}
 use Rattle.answer.specs.declared.Done.TheVariants as DoneIs
-use Rattle.answer.proofs.Promised.{sound-here, sound-rest, sound-front, sound_more, sound_then, first_more, refused-first, sound_back}
+use Rattle.answer.proofs.Promised.{sound-here, sound_rest, sound-front, sound_more, sound_then, first_more, refused-first, sound_back}
 use Rattle.layout.specs.declared.Fields.{Fields}
 use Rattle.layout.specs.declared.RasterLayout.{RasterLayout}
 use Rattle.layout.specs.declared.Checked.{Checked}
@@ -33,7 +33,7 @@ use Rattle.pixels.proofs.Same as Planes
 use Rattle.upstream.specs.Layout.{source_index, converted}
 use Rattle.upstream.specs.Clause.{Ok, Exactly}
 use Rattle.upstream.proofs.Same.{source_index-same, layout_converted-same, record_sound_valid, valid_record_sound}
-use Rattle.upstream.proofs.Calls.{ok_sound, sound_ok, value-is, refused_for, bytes-written, rest-kept, length-kept}
+use Rattle.upstream.proofs.Calls.{ok_sound, sound_ok, value-is, refused_for, bytes-written, rest_kept, length-kept}
 
 -- a record that one of our two checks takes
 abbrev pub Taken : RasterLayout → Type 0
@@ -187,9 +187,9 @@ module _ (l : RasterLayout) (file raw old : List ℕ) where
         valid = good.0;
         within = good.1;
         bytes = eqb-false l.fields.bytes 8 (sound-here rest);
-        map = mapped (sound-here (sound-rest rest));
-        planes = ltb-false (length raw) l.scratch_len (sound-here (sound-rest (sound-rest rest)));
-        room = ltb-false (length old) l.output_len (sound-here (sound-rest (sound-rest (sound-rest rest))));
+        map = mapped (sound-here (sound_rest rest));
+        planes = ltb-false (length raw) l.scratch_len (sound-here (sound_rest (sound_rest rest)));
+        room = ltb-false (length old) l.output_len (sound-here (sound_rest (sound_rest (sound_rest rest))));
       }
 
   premises_sound : RenderPremises l file raw old → Sound (render_faults l file raw old)
@@ -240,5 +240,5 @@ module _ (l : RasterLayout) (file raw old : List ℕ) where
         ∙ Planes.converted-same l s raw (take l.scratch_len raw) (λ i g. sym (get_or-take l.scratch_len raw i 0 g)) file k h
         ∙ sym (layout_converted-same l file (take l.scratch_len raw) k)
 
-    pub render_rest-kept : (k : ℕ) → l.output_len ≤ k → get_or new k 0 ≡ get_or old k 0
-    render_rest-kept = rest-kept (render_faults l file raw old) tt l.output_len (Render.converted l file raw) old new p
+    pub render_rest_kept : (k : ℕ) → l.output_len ≤ k → get_or new k 0 ≡ get_or old k 0
+    render_rest_kept = rest_kept (render_faults l file raw old) tt l.output_len (Render.converted l file raw) old new p

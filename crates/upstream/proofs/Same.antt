@@ -12,7 +12,7 @@ use borrow.Author.Tests.{eq-eqb, ne_eqb, eqb-false, not-false, ltb-true, ltb-fal
 use lib.ListN.{length}
 use lib.Dec.{eqb, ltb}
 use Rattle.answer.specs.Outcome.{pick, Sound, none, next, done, xor}
-use Rattle.answer.proofs.Promised.{sound-here, sound-rest, finishing}
+use Rattle.answer.proofs.Promised.{sound-here, sound_rest, finishing}
 use Rattle.words.specs.Digits as Digits
 use Rattle.words.specs.Word as Word
 use Rattle.words.specs.Word.{word_at, ordered}
@@ -195,7 +195,7 @@ sound_valid raw g other s =
     let good = good_checked (length raw) g s in
     record {
       width = width_same g.width other ∙ not-false (served g.width) (sound-here s);
-      channels = (good.channel, ltb-false 64 g.channels (sound-here (sound-rest (sound-rest s))));
+      channels = (good.channel, ltb-false 64 g.channels (sound-here (sound_rest (sound_rest s))));
       row = good.long;
       groups = good.rows;
       rows = good.whole;

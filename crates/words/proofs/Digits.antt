@@ -53,8 +53,8 @@ value-digit b (suc n) v h =
     rw (rest, pow-suc, digit_zero, mod-mul v (one-le-pow n b h) h, mul_comm b (v / b % b ^ n)) (add_comm (v % b) (v / b % b ^ n * b))
 
 -- the first n digits of v are those of v modulo b^n
-pub digit-rest : (b n v p : ℕ) → 0 < b → p < n → digit b p (v % b ^ n) ≡ digit b p v
-digit-rest b n v p h l =
+pub digit_rest : (b n v p : ℕ) → 0 < b → p < n → digit b p (v % b ^ n) ≡ digit b p v
+digit_rest b n v p h l =
     ap (digit b p) (sym (value-digit b n v h)) ∙ digit_value b n (λ q. digit b q v) (λ q m. digit_below b q v h) p l
 
 -- and the others those of v divided by b^n

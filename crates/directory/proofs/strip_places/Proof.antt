@@ -1,6 +1,6 @@
 -- `directory::strip_places` meets its contract: past the page's faults its strips', then the buffer's. Assumes nothing.
 use Rattle.answer.specs.Table.{filled}
-use Rattle.directory.proofs.Calls.{all_places, parts-refused}
+use Rattle.directory.proofs.Calls.{all_places, parts_refused}
 use borrow.Author.Rules.{rules}
 use Rattle.directory.proofs.strip_places.Statement.{statement}
 use Rattle.directory.proofs.strip_places.Tie as tie
@@ -14,7 +14,7 @@ strip-places-spec =
     let told = c.before in
     let opened = told.before.before in
     let args = opened.before.before.before.args in
-    parts-refused args.file.now args.page opened.open-page.result opened.open-page.ensures _ _ told.k.given.1)
+    parts_refused args.file.now args.page opened.open-page.result opened.open-page.ensures _ _ told.k.given.1)
     (λ c. search rules)
     (λ c.
     let filled = c.before.before in

@@ -1,6 +1,6 @@
 -- `entries::open_directory` meets its contract: past the header the way begins. Assumes nothing.
 use Prim.Native.Nat.{◌+◌, ◌≤◌, ℕ}
-use Rattle.answer.proofs.Promised.{first_more, refusing, sound-here, sound-rest, sound_skip, step-first, step-sound}
+use Rattle.answer.proofs.Promised.{first_more, refusing, sound-here, sound_rest, sound_skip, step-first, step-sound}
 use Rattle.answer.specs.Outcome.{Sound}
 use Rattle.entries.specs.Entries.{header_faults, little, on_the_way, open_faults}
 use Rattle.laws.specs.Turns.{faults_below}
@@ -15,7 +15,7 @@ use Rattle.entries.proofs.open_directory.Tie as tie
 
 header_read : (file : List ℕ) (page : ℕ) → Sound (header_faults file page) → 8 ≤ length file
 unfolding header_faults
-header_read file page s = ltb-false _ _ (sound-here (sound-rest s))
+header_read file page s = ltb-false _ _ (sound-here (sound_rest s))
 
 pub open-directory-spec : {M : Type 1} → statement M
 open-directory-spec =

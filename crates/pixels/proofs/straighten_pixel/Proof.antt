@@ -7,7 +7,7 @@ use mathlib.Core.Path.{◌≡◌, refl, ap, ◌∙◌}
 use mathlib.Core.List.{List}
 use lib.ListN.{length, get_or, length-set}
 use Rattle.answer.specs.Table.{stores}
-use Rattle.answer.proofs.Filling.{stores-rest}
+use Rattle.answer.proofs.Filling.{stores_rest}
 use Rattle.pixels.specs.Render.{straight_colour}
 use Rattle.pixels.proofs.straighten_pixel.Statement.{statement}
 use Rattle.pixels.proofs.straighten_pixel.Tie as tie
@@ -30,7 +30,7 @@ loop-again c =
     let old = args.s.now in
     let alpha : get_or old (args.at + args.last) 0 < 256 = omega (arith, at.before.slice-known.given (args.at + args.last)) in
     let g : ℕ → ℕ = λ j. straight_colour args.multiplied args.white (get_or old (args.at + j) 0) (get_or old (args.at + args.last) 0) in
-    let unread : get_or at.loop.s (args.at + at.loop.c) 0 ≡ get_or old (args.at + at.loop.c) 0 = ap (λ (l : List ℕ). get_or l (args.at + at.loop.c) 0) at.loop.invariant.2 ∙ stores-rest old args.at at.loop.c g (args.at + at.loop.c) (λ h. omega arith) in (
+    let unread : get_or at.loop.s (args.at + at.loop.c) 0 ≡ get_or old (args.at + at.loop.c) 0 = ap (λ (l : List ℕ). get_or l (args.at + at.loop.c) 0) at.loop.invariant.2 ∙ stores_rest old args.at at.loop.c g (args.at + at.loop.c) (λ h. omega arith) in (
       omega arith,
       simp length-set (omega arith),
       rw (c.colour.ensures _ alpha start.requires.known, unread, at.loop.invariant.2, add-one),

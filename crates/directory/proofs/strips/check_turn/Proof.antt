@@ -1,6 +1,6 @@
 -- `directory::strips::check_turn` meets its contract: length, then room, then the rows of the part that is there. Assumes nothing.
 use Prim.Native.Nat.{ℕ, ◌*◌, ◌+◌, ◌-◌, ◌≤◌}
-use Rattle.answer.proofs.Promised.{sound-here, sound-rest, step-on, step-refused, step-sound}
+use Rattle.answer.proofs.Promised.{sound-here, sound_rest, step-on, step-refused, step-sound}
 use Rattle.answer.specs.Outcome.{Step, pick}
 use Rattle.answer.specs.declared.Done.{Done}
 use Rattle.directory.specs.Page.{packed_faults, part_faults, smaller, strip_faults, strip_length, strip_place, strip_rows}
@@ -43,7 +43,7 @@ there c =
     let bytes = (rows_at tests).before in
     let args = (start (rows_at tests)).args in
     let file = args.file.now in
-    let room : strip_place file args.s args.k + strip_length file args.s args.k ≤ length file = ltb-false _ _ (sound-here (sound-rest (step-sound (tested tests) c.enum_told.given.1))) in
+    let room : strip_place file args.s args.k + strip_length file args.s args.k ≤ length file = ltb-false _ _ (sound-here (sound_rest (step-sound (tested tests) c.enum_told.given.1))) in
     omega (arith, room, bytes.before.place_of.ensures, bytes.length-of.ensures)
 
 -- the rows of that part

@@ -5,7 +5,7 @@ use Prim.Native.Nat.{◌+◌, ◌≤◌}
 use lib.ListN.{length}
 use Rattle.answer.proofs.Filling.{halfway}
 use Rattle.packets.proofs.Wordstart.{served-width}
-use Rattle.packets.proofs.Finish.{fill_inside, done_small, hold_fits, short-fed, done-room, finishes, rest-room, rest_from, all-fed}
+use Rattle.packets.proofs.Finish.{fill_inside, done_small, hold_fits, short-fed, done-room, finishes, rest_room, rest_from, all-fed}
 use Rattle.packets.proofs.feed.feed.Statement.{statement}
 use Rattle.packets.proofs.feed.feed.Tie as tie
 
@@ -23,7 +23,7 @@ enough : (c : tie.After-finish) → (lack c).missing.result ≤ length (start (l
 enough c = omega arith
 
 room : (c : tie.After-finish) → (fill (lack c)).past.result + (lack c).missing.result ≤ length (halfway ((fill (lack c)).past.result + (lack c).missing.result) (start (lack c)).args.out.now c.finish.new.1.1.1.1.1.1.0)
-room c = let at = lack c in rest-room (start at).pre (fill at).past.result (fill at).past.ensures at.missing.result at.missing.ensures (enough c) c.finish.ensures
+room c = let at = lack c in rest_room (start at).pre (fill at).past.result (fill at).past.ensures at.missing.result at.missing.ensures (enough c) c.finish.ensures
 
 pub feed-spec : {M : Type 1} → statement M
 feed-spec =

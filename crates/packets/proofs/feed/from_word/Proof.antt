@@ -1,6 +1,6 @@
 -- `packets::feed::from_word` meets its contract: whole words, and the bytes of a begun word. Assumes nothing.
 use borrow.Author.Rules.{rules}
-use Rattle.packets.proofs.Wordstart.{served-width, past_inside, end_room, words-first, rest-fits, rest-held}
+use Rattle.packets.proofs.Wordstart.{served-width, past_inside, end_room, words-first, rest_fits, rest_held}
 use Rattle.packets.proofs.feed.from_word.Statement.{statement}
 use Rattle.packets.proofs.feed.from_word.Tie as tie
 
@@ -20,10 +20,10 @@ from-word-spec =
     (λ c κs.
     let done = c.before.before.before.before.before.before in
     let cut = done.before.before.before.before in
-    rest-fits (start cut).requires cut.past.result cut.past.ensures done.words.ensures)
+    rest_fits (start cut).requires cut.past.result cut.past.ensures done.words.ensures)
     (λ c. search rules) (λ c. search rules) (λ c. search rules)
     (λ c.
     let last = c.before.before in
     let done = last.before.before.before.before.before.before.before in
     let cut = done.before.before.before.before in
-    rest-held (start cut).requires cut.past.result cut.past.ensures done.words.ensures last.hold.ensures))
+    rest_held (start cut).requires cut.past.result cut.past.ensures done.words.ensures last.hold.ensures))
