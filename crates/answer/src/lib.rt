@@ -5,7 +5,7 @@ ghost use Rattle.std.specs.Prelude.{◌≡◌, [], ◌∷◌};
 ghost use Rattle.answer.specs.Outcome.{number as number_of, fault_of, Step, InOrder};
 
 // The five kinds of refusal, in the order of rule 1.1's numbers.
-#[derive(Drop)]
+#[derive(Clone, Copy)]
 pub enum Refusal {
     Unsupported,
     Invalid,
@@ -15,18 +15,18 @@ pub enum Refusal {
 }
 
 // The answer of a call whose work is all in a lent buffer.
-#[derive(Drop)]
+#[derive(Clone, Copy)]
 pub enum Done {
     Done,
     Refused(Refusal),
 }
 
 // A position counted in samples.
-#[derive(Drop)]
+#[derive(Clone, Copy)]
 pub struct SampleAt(pub usize);
 
 // A position counted in bytes.
-#[derive(Drop)]
+#[derive(Clone, Copy)]
 pub struct ByteAt(pub usize);
 
 // Rule 1.1's number of a kind.

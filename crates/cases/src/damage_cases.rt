@@ -4,7 +4,7 @@ use crate::text::token;
 use damage::Counted;
 
 // An answer's number, 0 for done, and how many samples are marked.
-#[derive(Drop)]
+#[derive(Clone, Copy)]
 struct Got {
     number: u64,
     count: u64,

@@ -1,7 +1,7 @@
 use libc::STDOUT_FILENO;
 
 // How many cases ran, and how many of them differed.
-#[derive(Drop)]
+#[derive(Clone, Copy)]
 pub struct Tally {
     pub run: u64,
     pub differ: u64,

@@ -5,7 +5,7 @@ use answer::{ByteAt, SampleAt};
 use words::{Loaded, Place, Word};
 
 // An answer's number, 0 for done, and its value.
-#[derive(Drop)]
+#[derive(Clone, Copy)]
 struct Got {
     number: u64,
     value: u64,

@@ -17,7 +17,7 @@ ghost use Rattle.damage.specs.Promises.{Marked};
 use answer::{Done, Refusal};
 
 // The answer of `marks`: how many samples are marked.
-#[derive(Drop)]
+#[derive(Clone, Copy)]
 pub enum Counted {
     Done(usize),
     Refused(Refusal),

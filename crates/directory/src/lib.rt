@@ -17,7 +17,7 @@ use strips::{Strips, check_strip, check_strips, fill_parts, length_of, place_of}
 
 // A page: its layout, how its rows were predicted (1: not; 2: by the sample before), how many strips it has, and how they are
 // compressed (1: not; 32773: PackBits).
-#[derive(Drop)]
+#[derive(Clone, Copy)]
 pub struct Page {
     pub layout: RasterLayout,
     pub predictor: usize,
@@ -26,14 +26,14 @@ pub struct Page {
 }
 
 // The answer of `read_directory`.
-#[derive(Drop)]
+#[derive(Clone, Copy)]
 pub enum Found {
     Found(Page),
     Refused(Refusal),
 }
 
 // The answer of `strip_place`: where a strip begins, and its length.
-#[derive(Drop)]
+#[derive(Clone, Copy)]
 pub enum Place {
     At(ByteAt, usize),
     Refused(Refusal),

@@ -10,7 +10,7 @@ use answer::Refusal;
 use layout::{Checked, RasterLayout};
 use tags::{Read, Tags};
 
-#[derive(Drop)]
+#[derive(Clone, Copy)]
 pub(crate) struct Whole {
     pub layout: RasterLayout,
     pub predictor: usize,
@@ -18,7 +18,7 @@ pub(crate) struct Whole {
     pub strips: Strips,
 }
 
-#[derive(Drop)]
+#[derive(Clone, Copy)]
 pub(crate) enum Opening {
     Page(Whole),
     Refused(Refusal),

@@ -12,7 +12,7 @@ use packbits::check_rows;
 use tags::strips_per_plane;
 
 // What strips are found by: their places and lengths, the rows of the page and of a strip, the bytes of a row, and whether rows are packed.
-#[derive(Drop)]
+#[derive(Clone, Copy)]
 pub(crate) struct Strips {
     pub le: bool,
     pub offsets: Field,

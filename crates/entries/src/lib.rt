@@ -14,7 +14,7 @@ ghost use Rattle.entries.specs.Parts.{Room, Entry};
 use numbers::{bytes, long, past, short};
 
 // A directory: its byte order, its place, and how many entries it has.
-#[derive(Drop)]
+#[derive(Clone, Copy)]
 pub struct Directory {
     pub le: bool,
     pub at: u32,
@@ -23,7 +23,7 @@ pub struct Directory {
 
 // A field: the entry at which its tag stands or would stand, whether it is there, its type, how many values it has and where they stand, and
 // the number in the entry, which is the value where there is one.
-#[derive(Drop)]
+#[derive(Clone, Copy)]
 pub struct Field {
     pub entry: usize,
     pub there: bool,
@@ -34,7 +34,7 @@ pub struct Field {
 }
 
 // The answer of `open_directory`.
-#[derive(Drop)]
+#[derive(Clone, Copy)]
 pub enum Opened {
     At(Directory),
     Refused(Refusal),

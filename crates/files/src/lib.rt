@@ -17,7 +17,7 @@ ghost use Rattle.files.specs.Parts.{Ready, FilePut};
 use plan::{Plan, plan_of};
 
 // The answer of `file_length` and of `write_file`: the file's bytes.
-#[derive(Drop)]
+#[derive(Clone, Copy)]
 pub enum Written {
     Length(usize),
     Refused(Refusal),

@@ -8,7 +8,7 @@ use layout::RasterLayout;
 
 // Rows of the picture and of a strip, bytes of a row, how many strips and entries there are, how many of their numbers stand outside the entries,
 // where the parts stand, and the bytes of all.
-#[derive(Drop)]
+#[derive(Clone, Copy)]
 pub(crate) struct Plan {
     pub rows: usize,
     pub each: usize,

@@ -12,7 +12,7 @@ ghost use Rattle.answer.specs.Outcome.{Step};
 ghost use Rattle.layout.specs.Layout.{layout_faults, agreement, LayoutChecked, RecordChecked, Indexed};
 
 // What a caller says of a picture: all of a record that is not worked out.
-#[derive(Drop)]
+#[derive(Clone, Copy)]
 pub struct Fields {
     pub w: usize,
     pub h: usize,
@@ -28,7 +28,7 @@ pub struct Fields {
 }
 
 // A picture's layout: what a caller says, and what follows from it.
-#[derive(Drop)]
+#[derive(Clone, Copy)]
 pub struct RasterLayout {
     pub fields: Fields,
     pub encoded_width: usize,
@@ -41,14 +41,14 @@ pub struct RasterLayout {
 }
 
 // The answer of `check_layout`.
-#[derive(Drop)]
+#[derive(Clone, Copy)]
 pub enum Checked {
     Done(RasterLayout),
     Refused(Refusal),
 }
 
 // The answer of `index`.
-#[derive(Drop)]
+#[derive(Clone, Copy)]
 pub enum Place {
     Done(ByteAt),
     Refused(Refusal),

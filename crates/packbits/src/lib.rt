@@ -18,14 +18,14 @@ use reading::{check_packet, does_nothing, fill_row, fills, takes, whole_literal}
 use writing::{put_literals, put_plan};
 
 // The answer of `row_used` and `unpack_row`: the bytes of the input that the row takes.
-#[derive(Drop)]
+#[derive(Clone, Copy)]
 pub enum Unpacked {
     Used(usize),
     Refused(Refusal),
 }
 
 // The answer of `write_plan` and `pack_row`: the bytes written.
-#[derive(Drop)]
+#[derive(Clone, Copy)]
 pub enum Packed {
     Length(usize),
     Refused(Refusal),

@@ -11,7 +11,7 @@ ghost use Rattle.packets.specs.Promises.{nowhere, plan as plan_of, state, Begun,
 use answer::{Done, Refusal};
 
 // What a start fixes.
-#[derive(Drop)]
+#[derive(Clone, Copy)]
 pub struct Plan {
     pub row_bytes: usize,
     pub channels: usize,
@@ -22,7 +22,7 @@ pub struct Plan {
 }
 
 // The state of a conversion: the bytes that have come, those of the unfinished word, and the sum so far of each channel of the unfinished row.
-#[derive(Drop)]
+#[derive(Clone, Copy)]
 pub struct Packets {
     pub plan: Plan,
     pub received: usize,
@@ -30,19 +30,19 @@ pub struct Packets {
     pub sums: [u64; 64],
 }
 
-#[derive(Drop)]
+#[derive(Clone, Copy)]
 pub struct Started {
     pub state: Packets,
     pub answer: Done,
 }
 
-#[derive(Drop)]
+#[derive(Clone, Copy)]
 pub enum Wrote {
     Bytes(usize),
     Refused(Refusal),
 }
 
-#[derive(Drop)]
+#[derive(Clone, Copy)]
 pub struct Stepped {
     pub state: Packets,
     pub answer: Wrote,

@@ -105,7 +105,7 @@ pub const LONGEST: usize = 1200;
 pub const MOST_FILE: usize = 1600;
 
 // What a call answers: rule 1.1's number, 0 for done, and the word, place or count, if it answers one.
-#[derive(Drop)]
+#[derive(Clone, Copy)]
 pub struct Answer {
     pub number: usize,
     pub value: usize,

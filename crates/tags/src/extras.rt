@@ -10,7 +10,7 @@ use crate::{choose, wide};
 use answer::{Done, Refusal, fault, first_of};
 use entries::{Directory, Field, check_field, field_from};
 
-#[derive(Drop)]
+#[derive(Clone, Copy)]
 pub(crate) struct Extras {
     pub predictor: Field,
     pub map: Field,

@@ -20,7 +20,7 @@ use shape::Shape;
 use split::Split;
 
 // What a page's tags say: its layout, its predictor, its compression, its rows and those of a strip, and where its strips' places and lengths stand.
-#[derive(Drop)]
+#[derive(Clone, Copy)]
 pub struct Tags {
     pub fields: Fields,
     pub predictor: usize,
@@ -32,7 +32,7 @@ pub struct Tags {
 }
 
 // The answer of `read_tags`.
-#[derive(Drop)]
+#[derive(Clone, Copy)]
 pub enum Read {
     Tags(Tags),
     Refused(Refusal),

@@ -7,7 +7,7 @@ ghost use Rattle.entries.specs.Parts.{Room};
 use answer::{Done, Refusal, fault, first_of};
 use entries::{Directory, Field, check_field, field_from, value};
 
-#[derive(Drop)]
+#[derive(Clone, Copy)]
 pub(crate) struct Shape {
     pub width: Field,
     pub height: Field,

@@ -12,7 +12,7 @@ use entries::{Directory, Field, check_field, field_from};
 // The rows of a strip where nothing is said: all.
 const ALL_ROWS: u32 = 4294967295;
 
-#[derive(Drop)]
+#[derive(Clone, Copy)]
 pub(crate) struct Split {
     pub offsets: Field,
     pub samples: Field,

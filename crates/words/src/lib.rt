@@ -8,21 +8,21 @@ ghost use Rattle.words.specs.Promises.{served, load_width, Joined, Placed, ReadW
 use answer::{ByteAt, Refusal, SampleAt};
 
 // The answer of `read_word`.
-#[derive(Drop)]
+#[derive(Clone, Copy)]
 pub enum Word {
     Value(u64),
     Refused(Refusal),
 }
 
 // The answer of `load`.
-#[derive(Drop)]
+#[derive(Clone, Copy)]
 pub enum Loaded {
     Value(u32),
     Refused(Refusal),
 }
 
 // The answer of `byte_place`.
-#[derive(Drop)]
+#[derive(Clone, Copy)]
 pub enum Place {
     At(ByteAt),
     Refused(Refusal),

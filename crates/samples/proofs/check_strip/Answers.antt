@@ -1,0 +1,28 @@
+-- `samples::check_strip` meets its promise: the tests are rule 3.6's faults, in its order. Assumes nothing.
+use borrow.Author.Rules.{rules}
+use borrow.Author.Tests.{eq-eqb, ne_eqb, lt-ltb, le-ltb, not-true, not-false}
+use mathlib.Core.Path.{◌≡◌, ap, ◌∙◌, sym}
+use mathlib.Core.Bool.{true, not}
+use mathlib.Core.List.{List}
+use native.Mathlib.Nat.{mul-le-mul, mul-pos, lt_of_le_of_lt}
+use native.Mathlib.Omega.{arith}
+use lib.Dec.{lit<}
+use lib.ListN.{drop}
+use Rattle.answer.specs.Outcome.{Fault, here, next, none}
+use Rattle.answer.proofs.Promised.{refusing, finishing}
+use Rattle.words.specs.Promises.{served}
+use Rattle.words.proofs.Served.{served-some}
+use Rattle.laws.proofs.Faults.{Past, past_none, past_one}
+use Rattle.samples.specs.Sample.{strip}
+use Rattle.samples.specs.Promises.{strip_faults}
+use Rattle.samples.proofs.check_strip.Goals as goal
+
+pub overflow_mul-channels : goal.overflow_mul-channels
+overflow_mul-channels c =
+    let allowed : served c.args.width ≡ true = sym c.width_served.ensures ∙ not-false _ c.if-not-width_served.false in
+    record { fits = lt_of_le_of_lt (mul-le-mul c.if-channels-gt64.false (served-some _ allowed).1) (lit< tt) }
+
+pub nonzero_rem-row_bytes : goal.nonzero_rem-row_bytes
+nonzero_rem-row_bytes c =
+    let allowed : served c.args.width ≡ true = sym c.width_served.ensures ∙ not-false _ c.if-not-width_served.false in
+    mul-pos (omega arith) (served-some _ allowed).0
