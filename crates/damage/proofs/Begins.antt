@@ -65,7 +65,7 @@ module _ {damage : List ℕ} {channels width from at left : ℕ} (is : Struck da
       }
     where
       by : (n : ℕ) → from ≤ n → n < suc (from + (channels - left)) → Dec (n < from + (channels - left)) → struck width damage n ≡ true
-      by n h l (yes before) = is.struck-so-far n h before
+      by n h l (yes before) = is.struck_so_far n h before
       by n h l (no after) = let last : n ≡ from + (channels - left) = omega arith in rw (last, ← is.place) hit
 
   -- at the row's end, and with every channel looked at
@@ -73,13 +73,13 @@ module _ {damage : List ℕ} {channels width from at left : ℕ} (is : Struck da
   struck_end l n h below inside = by (dec_lt n (from + (channels - left)))
     where
       by : Dec (n < from + (channels - left)) → struck width damage n ≡ true
-      by (yes before) = is.struck-so-far n h before
+      by (yes before) = is.struck_so_far n h before
       by (no after) =
           let late : from + (channels - left) ≤ n = omega arith in
           absurd (omega (arith, mul-le-mul_right width late, is.place))
 
   pub struck-all : left ≡ 0 → PixelStruck damage channels width from
-  struck-all none n h below inside = is.struck-so-far n h (omega arith)
+  struck-all none n h below inside = is.struck_so_far n h (omega arith)
 
 -- a row has as many marks as samples
 pub row-marks : {damage : List ℕ} {channels width : ℕ} {old : List ℕ} → MarksFit damage channels width old → length damage / width ≡ length old

@@ -154,17 +154,17 @@ module _ {damage : List ℕ} {g : Strip} {old : List ℕ} {count at n : ℕ} {ou
           begins = add-mod_right n (g.row / g.width) ∙ is.begins;
           same = ap length now ∙ length-filled (n + g.row / g.width) f old marks-room;
           so_far = now;
-          count_so_far = omega (arith, is.count-so-far, added, counted_join n (g.row / g.width) (marked g true damage));
+          count_so_far = omega (arith, is.count_so_far, added, counted_join n (g.row / g.width) (marked g true damage));
         }
 
     -- the count has room
     pub count_room : (more_count : ℕ) (new : List ℕ) → RowMarked (part at (at + g.row) damage) g.channels g.width (part n (n + g.row / g.width) out) more_count new → count + more_count ≤ length old
-    count_room more_count new r = omega (arith, (row_turned more_count new r).count-so-far, counted-most (n + g.row / g.width) (marked g true damage), marks-room)
+    count_room more_count new r = omega (arith, (row_turned more_count new r).count_so_far, counted-most (n + g.row / g.width) (marked g true damage), marks-room)
 
   pub rows_ended : length damage ≤ at → MarkedInto damage g true old count out
   rows_ended l =
       let all : n ≡ length old = eq_of_mul-eq-mul_right g.width (good fits).wide n (length old) (omega (arith, is.place, is.inside, fits.each)) in
       record {
         marks = (rw all at is.so_far) ∙ filled-all (length old) _ old (omega arith);
-        count-is = rw all at is.count-so-far;
+        count-is = rw all at is.count_so_far;
       }

@@ -67,11 +67,11 @@ module _ {f : Fields} {p : Plan} (l : Laid f p) where
   pub offsets_last_lem : pick (in_entry 4 p.strips) p.planes p.offsets ≡ offsets_last f p.each
   unfolding offsets_last
   offsets_last_lem =
-      rw (l.strips-said, l.planes, l.offsets)
+      rw (l.strips_said, l.planes, l.offsets)
       (ap (λ (n : ℕ). pick (in_entry 4 (strips f p.each)) n (offsets_place f)) (sym (add-zero (planes_place f p.each))))
 
   pub counts_last_lem : pick (in_entry 4 p.strips) (smaller p.each p.rows * p.row) p.counts ≡ counts_last f p.each
   unfolding counts_last
   counts_last_lem =
-      rw (l.strips-said, l.rows, l.row, l.counts)
+      rw (l.strips_said, l.rows, l.row, l.counts)
       (ap (λ (n : ℕ). pick (in_entry 4 (strips f p.each)) n (counts_place f p.each)) (strip-left f p.each 0 f.h (sym (first-left f.h p.each))))

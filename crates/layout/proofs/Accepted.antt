@@ -157,4 +157,4 @@ agrees l right =
       output_length_lem = a.0.1;
       colours = a.1;
     })
-    (λ a. ((((((a.encoded-width, a.plane-channels), a.planes), a.plane-length), a.scratch-length), a.output-length), a.colours))
+    (λ a. ((((((a.encoded_width_lem, a.plane_channels_lem), a.planes), a.plane_length_lem), a.scratch_length_lem), a.output_length_lem), a.colours))

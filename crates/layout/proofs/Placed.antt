@@ -27,13 +27,13 @@ module _ (l : RasterLayout) (s : Sound (record_faults l)) where
   -- the lengths that a record has
   pub output_is : l.output_len ≡ l.fields.w * l.fields.h * (l.fields.ch * l.fields.bytes)
   unfolding output_length
-  output_is = (record_agreed l s).output-length ∙ mul_assoc (l.fields.w * l.fields.h) l.fields.ch l.fields.bytes
+  output_is = (record_agreed l s).output_length_lem ∙ mul_assoc (l.fields.w * l.fields.h) l.fields.ch l.fields.bytes
 
   pub scratch_is : l.scratch_len ≡ l.encoded_width * l.fields.h * (plane_channels l.fields * planes l.fields)
   unfolding scratch_length plane_length
   scratch_is =
-      let row : l.encoded_width ≡ encoded_width l.fields = (record_agreed l s).encoded-width in
-      rw row ((record_agreed l s).scratch-length ∙ mul_assoc (encoded_width l.fields * l.fields.h) (plane_channels l.fields) (planes l.fields))
+      let row : l.encoded_width ≡ encoded_width l.fields = (record_agreed l s).encoded_width_lem in
+      rw row ((record_agreed l s).scratch_length_lem ∙ mul_assoc (encoded_width l.fields * l.fields.h) (plane_channels l.fields) (planes l.fields))
 
   -- where a byte holds several samples, or a place of the map, a pixel has one byte in the picture's channel and one in all planes
   pub packed-one : packed l ≡ true → (l.fields.bytes ≡ 1) × (plane_channels l.fields * planes l.fields ≡ 1)
@@ -53,7 +53,7 @@ module _ (l : RasterLayout) (s : Sound (record_faults l)) where
   unfolding encoded_width
   row_within x h =
       let some = (up_to_eight shown.slots).0 in
-      let row : l.encoded_width ≡ (l.fields.w - 1) / l.fields.slots + 1 = (record_agreed l s).encoded-width in
+      let row : l.encoded_width ≡ (l.fields.w - 1) / l.fields.slots + 1 = (record_agreed l s).encoded_width_lem in
       rw row ((div-lt_iff_lt-mul some).1 (omega (arith, lt-div-mul-add {a = l.fields.w - 1} some, add-mul ((l.fields.w - 1) / l.fields.slots) 1 l.fields.slots, one-mul l.fields.slots)))
 
   pub packed_below : (k : ℕ) → packed l ≡ true → k < l.output_len → packed_index l k < l.scratch_len
@@ -78,7 +78,7 @@ module _ (l : RasterLayout) (s : Sound (record_faults l)) where
 
   pub row_is : packed l ≡ false → l.encoded_width ≡ l.fields.w
   unfolding encoded_width
-  row_is e = rw ((plain-one e).1, div-one) at (record_agreed l s).encoded-width ∙ omega (arith, shown.wide)
+  row_is e = rw ((plain-one e).1, div-one) at (record_agreed l s).encoded_width_lem ∙ omega (arith, shown.wide)
 
   -- the bytes of a word change places within the pixel
   pub high_first-within : (c : ℕ) → c < l.fields.ch * l.fields.bytes → high_first l.fields.bytes l.fields.le c < l.fields.ch * l.fields.bytes
@@ -106,9 +106,9 @@ module _ (l : RasterLayout) (s : Sound (record_faults l)) where
     unfolding plane_channels planes plane_length scratch_length
     separate_below e c q =
         let some = (up_to_eight shown.bytes).0 in
-        let row : l.encoded_width ≡ encoded_width l.fields = (record_agreed l s).encoded-width in
-        let plane : l.plane_len ≡ l.fields.w * l.fields.h * l.fields.bytes = rw (← row, row_is plain, (plain-one plain).0, e) at (record_agreed l s).plane-length in
-        let all : l.scratch_len ≡ l.plane_len * l.fields.ch = rw (← (record_agreed l s).plane-length, e) at (record_agreed l s).scratch-length in
+        let row : l.encoded_width ≡ encoded_width l.fields = (record_agreed l s).encoded_width_lem in
+        let plane : l.plane_len ≡ l.fields.w * l.fields.h * l.fields.bytes = rw (← row, row_is plain, (plain-one plain).0, e) at (record_agreed l s).plane_length_lem in
+        let all : l.scratch_len ≡ l.plane_len * l.fields.ch = rw (← (record_agreed l s).plane_length_lem, e) at (record_agreed l s).scratch_length_lem in
         let inner : k / (l.fields.ch * l.fields.bytes) * l.fields.bytes + c % l.fields.bytes < l.plane_len = rw plane (grouped pixel_within (mod-lt c some)) in
         let outer = grouped ((div-lt_iff_lt-mul some).1 q) inner in
         omega (arith, mul_comm l.plane_len l.fields.ch, outer)
@@ -137,8 +137,8 @@ module _ (l : RasterLayout) (s : Sound (record_faults l)) where
 
         by : (b : Bool) → l.fields.separate ≡ b → sample_index l p (c / l.fields.bytes) * l.fields.bytes + c % l.fields.bytes ≡ pick l.fields.separate (c / l.fields.bytes * l.plane_len + p * l.fields.bytes + c % l.fields.bytes) (p * (l.fields.ch * l.fields.bytes) + c)
         by true e =
-            let row : l.encoded_width ≡ encoded_width l.fields = (record_agreed l s).encoded-width in
-            let plane : l.plane_len ≡ l.fields.w * l.fields.h * l.fields.bytes = rw (← row, row_is plain, (plain-one plain).0, e) at (record_agreed l s).plane-length in
+            let row : l.encoded_width ≡ encoded_width l.fields = (record_agreed l s).encoded_width_lem in
+            let plane : l.plane_len ≡ l.fields.w * l.fields.h * l.fields.bytes = rw (← row, row_is plain, (plain-one plain).0, e) at (record_agreed l s).plane_length_lem in
             let whole : l.plane_len / l.fields.bytes * l.fields.bytes ≡ l.plane_len = rw (plane, mul-div_cancel (l.fields.w * l.fields.h) some) in
             rw e (omega (arith, add-mul (c / l.fields.bytes * (l.plane_len / l.fields.bytes)) p l.fields.bytes, mul_assoc (c / l.fields.bytes) (l.plane_len / l.fields.bytes) l.fields.bytes, ap (λ (n : ℕ). c / l.fields.bytes * n) whole))
         by false e =
@@ -177,4 +177,4 @@ module _ (l : RasterLayout) (s : Sound (record_faults l)) where
 
   -- and the planes are within the limit
   pub scratch_limited : l.scratch_len ≤ byte_limit
-  scratch_limited = omega (arith, (record_agreed l s).scratch-length, scratch_within l.fields shown, shown.size)
+  scratch_limited = omega (arith, (record_agreed l s).scratch_length_lem, scratch_within l.fields shown, shown.size)

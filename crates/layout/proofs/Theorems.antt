@@ -56,38 +56,38 @@ valid_asked : (l : RasterLayout) → Valid l → Within l → Accepted l.fields
 unfolding output_length
 valid_asked l v t =
     record {
-      bytes = v.byte-widths;
+      bytes = v.byte_widths;
       some = v.some.1.0;
       few = v.some.1.1;
       slots = by l.fields.palette refl;
-      alpha = v.alpha-kinds;
+      alpha = v.alpha_kinds;
       wide = v.some.0.0;
       high = v.some.0.1;
-      eight = v.eight-bytes;
-      covered = v.with-alpha;
-      mapped = v.with-palette;
-      shared = v.without-palette;
+      eight = v.eight_bytes;
+      covered = v.with_alpha;
+      mapped = v.with_palette;
+      shared = v.without_palette;
       width = t.width;
       height = t.height;
       size = t.size;
     }
   where
     by : (b : Bool) → l.fields.palette ≡ b → OneTwoEight l.fields.slots
-    by true e = (v.with-palette e).0.0.1
-    by false e = ⊎_elim (λ one. inl (inl one)) (λ q. inr q.0.0.0) (v.without-palette e)
+    by true e = (v.with_palette e).0.0.1
+    by false e = ⊎_elim (λ one. inl (inl one)) (λ q. inr q.0.0.0) (v.without_palette e)
 
 valid_agrees : (l : RasterLayout) → Valid l → Agreement l (completed l.fields)
 unfolding encoded_width plane_channels planes plane_length scratch_length output_length colours
 valid_agrees l v =
-    let plane : l.plane_len ≡ plane_length l.fields = rw (v.encoded-width, v.plane-channels) at v.plane-length in
-    let scratch : l.scratch_len ≡ scratch_length l.fields = rw (plane, v.planes) at v.scratch-length in
+    let plane : l.plane_len ≡ plane_length l.fields = rw (v.encoded_width_lem, v.plane_channels_lem) at v.plane_length_lem in
+    let scratch : l.scratch_len ≡ scratch_length l.fields = rw (plane, v.planes) at v.scratch_length_lem in
     record {
-      encoded_width_lem = v.encoded-width;
-      plane_channels_lem = v.plane-channels;
+      encoded_width_lem = v.encoded_width_lem;
+      plane_channels_lem = v.plane_channels_lem;
       planes = v.planes;
       plane_length_lem = plane;
       scratch_length_lem = scratch;
-      output_length_lem = v.output-length;
+      output_length_lem = v.output_length_lem;
       colours = v.colours;
     }
 
@@ -132,7 +132,7 @@ answered_accepted f l answer p q = done_once answer DoneIs.Done (q ∙ sound-don
 -- scratch length never exceeds output length
 pub scratch_within_output : (l : RasterLayout) → Sound (record_faults l) → l.scratch_len ≤ l.output_len
 scratch_within_output l s =
-    omega (arith, scratch_within l.fields (record_accepted l s), (record_agreed l s).scratch-length, (record_agreed l s).output-length)
+    omega (arith, scratch_within l.fields (record_accepted l s), (record_agreed l s).scratch_length_lem, (record_agreed l s).output_length_lem)
 
 pub answered_scratch : (f : Fields) (l : RasterLayout) → LayoutChecked f (CheckedIs.Done l) → l.scratch_len ≤ l.output_len
 answered_scratch f l p = scratch_within_output l (answered_sound f l p)

@@ -21,7 +21,7 @@ same_numbers f p q r s t u v = rw (p, q, r, s, t, u, v)
 
 pub agreed_whole : (l : RasterLayout) → Agreement l (completed l.fields) → l ≡ completed l.fields
 agreed_whole l a =
-    same_numbers l.fields a.encoded-width a.plane-channels a.planes a.plane-length a.scratch-length a.output-length a.colours
+    same_numbers l.fields a.encoded_width_lem a.plane_channels_lem a.planes a.plane_length_lem a.scratch_length_lem a.output_length_lem a.colours
 
 module _ (l : RasterLayout) (s : Sound (record_faults l)) where
   compared : Sound (invalid (not (agreement l (completed l.fields))) ∷ [])

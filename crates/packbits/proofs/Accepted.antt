@@ -48,13 +48,13 @@ module _ (row kinds lengths : List ℕ) where
   keeps_from : PlanRules row kinds lengths → (m k : ℕ) → k + m ≡ length kinds → keeps (drop (start_of lengths k) row) (plan_from kinds lengths k) ≡ true
   keeps_from r zero k e =
       let all : k ≡ length kinds = omega arith in
-      let start : start_of lengths k ≡ length row = ap (start_of lengths) all ∙ r.adds-up in
+      let start : start_of lengths k ≡ length row = ap (start_of lengths) all ∙ r.adds_up in
       ap (keeps (drop (start_of lengths k) row)) (plan_end kinds lengths k (omega arith)) ∙ used_up row (start_of lengths k) (omega arith) ∙ eq-eqb (start_of lengths k) (length row) start
   keeps_from r (suc m) k e =
       let start = start_of lengths k in
       let n = get_or lengths k 0 in
       let more : suc k + m ≡ length kinds = omega arith in
-      let within : start + n ≤ length row = rw r.adds-up at (sum-within (λ j. get_or lengths j 0) k (length kinds) (omega arith)) in
+      let within : start + n ≤ length row = rw r.adds_up at (sum-within (λ j. get_or lengths j 0) k (length kinds) (omega arith)) in
       let first = rule_kept start k (omega arith) (r.each k (omega arith)) in
       ap (keeps (drop start row)) (plan-next kinds lengths k (omega arith) r.paired) ∙ rw (first, drop-drop n start row, add-one k) (keeps_from r m (suc k) more)
 

@@ -171,7 +171,7 @@ looked_end {packed} {n} {at} {left} l e =
 copied_length : (h : ℕ) (input : List ℕ) (b : Bool) → ltb h 128 ≡ b → takes h ≤ length input → length (pick b (take (fills h) (drop 1 input)) (table (fills h) (λ k. get_or input 1 0))) ≡ fills h
 copied_length h input true e room =
     let kind = copies h (ltb-true h 128 e) in
-    length-take-le (fills h) (drop 1 input) (rw (length-drop 1 input) (omega (arith, room, kind.fills-so, kind.takes-so)))
+    length-take-le (fills h) (drop 1 input) (rw (length-drop 1 input) (omega (arith, room, kind.fills_so, kind.takes_so)))
 copied_length h input false e room = length-table (fills h) _
 
 pub length_packet : (p : Packet) → Fits p → length (packet_bytes p) ≡ fills (header p)
@@ -273,7 +273,7 @@ sound-at packed at left inside passes whole =
 -- a look past a packet of which the first byte was seen
 pub looked_past : {packed : List ℕ} {n at left f t : ℕ} → Looked packed n at left → 0 < left → Header (get_or packed at 0) f t → at < length packed → f ≤ left → at + t ≤ length packed → Looked packed n (at + t) (left - f)
 looked_past {packed} {n} {at} {left} l more kind inside passes whole =
-    rw (kind.fills-so, kind.takes-so) at (looked_on l more (sound-at packed at left inside (rw kind.fills-so passes) (rw kind.takes-so whole)))
+    rw (kind.fills_so, kind.takes_so) at (looked_on l more (sound-at packed at left inside (rw kind.fills_so passes) (rw kind.takes_so whole)))
 
 pub record WholeLiteral (packed : List ℕ) (at left : ℕ) : Type 0 where
   pub there : at + 129 ≤ length packed
@@ -308,11 +308,11 @@ module _ (packed : List ℕ) (at left : ℕ) where
   pub copied_bytes : h < 128 → packet_bytes (begun packed at left) ≡ bytes_at packed (at + 1) (h + 1)
   unfolding packet_bytes
   copied_bytes l =
-      rw (header_at packed at left, lt-ltb h 128 l, (copies h l).fills-so) (ap (take (h + 1)) (drop-drop 1 at packed))
+      rw (header_at packed at left, lt-ltb h 128 l, (copies h l).fills_so) (ap (take (h + 1)) (drop-drop 1 at packed))
 
   pub repeated_bytes : {f t : ℕ} → 128 ≤ h → Header h f t → packet_bytes (begun packed at left) ≡ table f (λ k. get_or packed (at + 1) 0)
   unfolding packet_bytes
-  repeated_bytes l kind = rw (header_at packed at left, le-ltb h 128 l, ← kind.fills-so) (ap (λ (b : ℕ). table (fills h) (λ k. b)) (get_or-drop at packed 1 0))
+  repeated_bytes l kind = rw (header_at packed at left, le-ltb h 128 l, ← kind.fills_so) (ap (λ (b : ℕ). table (fills h) (λ k. b)) (get_or-drop at packed 1 0))
 
 -- a row that packets have filled up to a place
 pub record Filling (packed row₀ : List ℕ) (at from : ℕ) (row : List ℕ) : Type 0 where
@@ -342,14 +342,14 @@ module _ {packed row₀ row : List ℕ} {at from : ℕ} (fill : Filling packed r
     pub ends : {f t : ℕ} → Header (get_or packed at 0) f t → (at + t ≤ length packed) × (from + f ≤ length row)
     ends kind =
         let fit = packet_fits in
-        (rw (← kind.takes-so) fit.whole, omega (arith, fit.passes, kind.fills-so, fill.upto.same))
+        (rw (← kind.takes_so) fit.whole, omega (arith, fit.passes, kind.fills_so, fill.upto.same))
 
     pub filling_on : {new bytes : List ℕ} {f t : ℕ} → Header (get_or packed at 0) f t → packet_bytes (begun packed at left) ≡ bytes → Placed from bytes row new → Filling packed row₀ (at + t) (from + f) new
     filling_on {new} {bytes} {f} {t} kind is put =
         let p = begun packed at left in
-        let next : packets p ≡ p ∷ packets (begun packed (at + t) (left - f)) = rw (kind.fills-so, kind.takes-so) at (next-at packed at left some_left packet_sound) in
+        let next : packets p ≡ p ∷ packets (begun packed (at + t) (left - f)) = rw (kind.fills_so, kind.takes_so) at (next-at packed at left some_left packet_sound) in
         let rest : left - f ≡ length row₀ - (from + f) = omega arith in
-        let long : length bytes ≡ f = ap length (sym is) ∙ length_packet p (fits p packet_sound) ∙ ap fills (header_at packed at left) ∙ kind.fills-so in
+        let long : length bytes ≡ f = ap length (sym is) ∙ length_packet p (fits p packet_sound) ∙ ap fills (header_at packed at left) ∙ kind.fills_so in
         let on : bytes_of (packets p) ≡ bytes ++ bytes_of (packets (begun packed (at + t) (left - f))) = ap bytes_of next ∙ ap (λ (l : List ℕ). l ++ bytes_of (packets (begun packed (at + t) (left - f)))) is in
         record {
           inside = (ends kind).0;

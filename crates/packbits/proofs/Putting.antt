@@ -81,7 +81,7 @@ module _ {kinds lengths row out₀ out : List ℕ} {at to k : ℕ} (paired : len
 
   module _ (more : k < length kinds) where
     next-keeps : (kept (drop at row) (planned-at kinds lengths k) && keeps (drop (get_or lengths k 0) (drop at row)) (plan_from kinds lengths (k + 1))) ≡ true
-    next-keeps = rw (plan-next kinds lengths k more paired) at put.keeps-rules
+    next-keeps = rw (plan-next kinds lengths k more paired) at put.keeps_rules
 
     next-kept : kept (drop at row) (planned-at kinds lengths k) ≡ true
     next-kept = and_left _ _ next-keeps
@@ -144,13 +144,13 @@ plain-keeps zero row left long e = eq-eqb (length row) 0 (omega arith)
 plain-keeps (suc g) row left long e =
     let first = first-literal left (omega arith) in
     let n = literal_of left in
-    rw (literal-kept row n first.some first.few (omega (arith, first.inside))) (plain-keeps g (drop n row) (left - 128) (length-drop n row ∙ omega (arith, first.behind-it)) (omega (arith, first.counted)))
+    rw (literal-kept row n first.some first.few (omega (arith, first.inside))) (plain-keeps g (drop n row) (left - 128) (length-drop n row ∙ omega (arith, first.behind_it)) (omega (arith, first.counted)))
 
 pub plain-long : (g left : ℕ) → g ≡ literals_of left → plan_length (literals g left) ≡ left + g
 plain-long zero left e = omega arith
 plain-long (suc g) left e =
     let first = first-literal left (omega arith) in
-    ap (λ (n : ℕ). literal_of left + 1 + n) (plain-long g (left - 128) (omega (arith, first.counted))) ∙ omega (arith, first.behind-it, first.inside)
+    ap (λ (n : ℕ). literal_of left + 1 + n) (plain-long g (left - 128) (omega (arith, first.counted))) ∙ omega (arith, first.behind_it, first.inside)
 
 -- literals put up to a place of the row
 pub record PuttingPlain (row out₀ : List ℕ) (at to : ℕ) (out : List ℕ) : Type 0 where
@@ -187,7 +187,7 @@ module _ {row out₀ out : List ℕ} {at to : ℕ} (put : PuttingPlain row out�
     plain-on {new} e =
         let left = length row - at in
         let first = literal-first in
-        let behind : length row - (at + n) ≡ left - 128 = omega (arith, first.behind-it) in
+        let behind : length row - (at + n) ≡ left - 128 = omega (arith, first.behind_it) in
         let long = packet_long (drop at row) (Literal n) (rw (length-drop at row) first.inside) in
         let past = drop-drop n at row in
         record {

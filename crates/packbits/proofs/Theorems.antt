@@ -40,11 +40,11 @@ literal_packs row rest n some few inside =
     let long = length-take-le n row inside in
     let back : n - 1 + 1 ≡ n = omega arith in
     record {
-      filled = kind.fills-so ∙ back;
-      taken = kind.takes-so ∙ omega (arith, long);
+      filled = kind.fills_so ∙ back;
+      taken = kind.takes_so ∙ omega (arith, long);
       inside = inside;
       some = omega arith;
-      content = rw (lt-ltb (n - 1) 128 (omega arith), kind.fills-so, back) (take_at (take n row) rest n long);
+      content = rw (lt-ltb (n - 1) 128 (omega arith), kind.fills_so, back) (take_at (take n row) rest n long);
     }
 
 repeat_packs : (row rest : List ℕ) (n : ℕ) → 2 ≤ n → n ≤ 128 → n ≤ length row → ((k : ℕ) → k < n → get_or row k 0 ≡ get_or row 0 0) → Packs ((257 - n) ∷ get_or row 0 0 ∷ []) rest row n
@@ -53,11 +53,11 @@ repeat_packs row rest n some few inside alike =
     let kind = repeats (257 - n) (omega arith) in
     let back : 257 - (257 - n) ≡ n = omega arith in
     record {
-      filled = kind.fills-so ∙ back;
-      taken = kind.takes-so;
+      filled = kind.fills_so ∙ back;
+      taken = kind.takes_so;
       inside = inside;
       some = omega arith;
-      content = rw (le-ltb (257 - n) 128 (omega arith), kind.fills-so, back) (table_same n _ _ (λ k h. sym (alike k h)) ∙ own_front n row inside);
+      content = rw (le-ltb (257 - n) 128 (omega arith), kind.fills_so, back) (table_same n _ _ (λ k h. sym (alike k h)) ∙ own_front n row inside);
     }
 
 packs : (row rest : List ℕ) (p : Planned) → Kept row p → Packs (packet_of row p) rest row p.bytes

@@ -42,7 +42,7 @@ module _ (s : List ℕ) (kept : strays s ≡ false) {plan : Plan} {tail piece ol
 
   pub numbers-refused : (kind : Refusal) → answer ≡ WroteIs.Refused kind → PieceTaken s piece old (WroteIs.Refused kind) (spliced 8 72 s sums') new
   numbers-refused kind e =
-      let same : sums' ≡ part 8 72 s = (rw (sym took.writes.answers ∙ ap wrote_outcome e) at took.sums-are) ∙ sym (sums_part s (kept-long s kept)) in
+      let same : sums' ≡ part 8 72 s = (rw (sym took.writes.answers ∙ ap wrote_outcome e) at took.sums_are) ∙ sym (sums_part s (kept-long s kept)) in
       record {
         stepped = record { state = state_of s; answer = WroteIs.Refused kind };
         allowed = piece_refused (state_of s) piece old tails sums took kind e;

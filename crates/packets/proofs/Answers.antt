@@ -70,7 +70,7 @@ module _ (st : Packets) (piece old : List ℕ) (tails : length st.tail ≡ 8) (s
     tail_is = rw (lent_same, finished) at is.tails
 
     sums-is : sums' ≡ (continued st piece).sums
-    sums-is = rw (lent_same, finished) at is.sums-are
+    sums-is = rw (lent_same, finished) at is.sums_are
 
     pub piece_lengths : (length tail' ≡ 8) × (length sums' ≡ 64)
     unfolding state_at tail_of sums_of

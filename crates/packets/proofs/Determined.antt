@@ -44,7 +44,7 @@ piece_determined st piece old a b x y s t =
 pub lent_piece_determined : (st : Packets) (piece old : List ℕ) (a b : Wrote) (t u v w x y : List ℕ) → TookLent st piece old a t v x → TookLent st piece old b u w y → (a ≡ b) × ((t ≡ u) × ((v ≡ w) × (x ≡ y)))
 lent_piece_determined st piece old a b t u v w x y p q =
     let one = determined (wrote_outcome a) (wrote_outcome b) x y p.writes q.writes in
-    (once wrote_outcome back back-wrote a b one.0, (p.tails ∙ sym q.tails, (p.sums-are ∙ sym q.sums-are, one.1)))
+    (once wrote_outcome back back-wrote a b one.0, (p.tails ∙ sym q.tails, (p.sums_are ∙ sym q.sums_are, one.1)))
 
 pub close_determined : (st : Packets) (a b : Done) → Closed st a → Closed st b → a ≡ b
 close_determined st a b x y = done_once a b (x ∙ sym y)

@@ -45,10 +45,10 @@ module _ {p : Plan} {k : ℕ} {raw sums old : List ℕ} (rows : RowsWords p k ra
   whole-rows = rw (length_part 0 whole raw (omega arith) whole-inside) (ap (λ (n : ℕ). n % R) (omega (arith, whole_is)) ∙ mul-mod_left (length raw / R) R)
 
   pub rows-first : (answer : Done) {x : List ℕ} → Converted (part 0 whole raw) (geometry p) p.predict p.le p.out_le (part 0 whole old) answer x → WordsFed p k (part 0 whole raw) sums (part 0 whole old) sums x
-  rows-first answer c = rows-fed (front-words feed whole whole-inside whole_words) rows.row-starts whole-rows answer c
+  rows-first answer c = rows-fed (front-words feed whole whole-inside whole_words) rows.row_starts whole-rows answer c
 
   starts : (k + whole) % R ≡ 0
-  starts = ap (λ (n : ℕ). (k + n) % R) whole_is ∙ add-mul-mod_self_right k (length raw / R) R ∙ rows.row-starts
+  starts = ap (λ (n : ℕ). (k + n) % R) whole_is ∙ add-mul-mod_self_right k (length raw / R) R ∙ rows.row_starts
 
   pub rest_of_rows : (answer : Done) {x : List ℕ} → Converted (part 0 whole raw) (geometry p) p.predict p.le p.out_le (part 0 whole old) answer x → RowWords p (k + whole) 0 (part whole (length raw) raw) sums (part whole (length (halfway whole old x)) (halfway whole old x))
   rest_of_rows answer c = record {

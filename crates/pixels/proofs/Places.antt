@@ -41,8 +41,8 @@ module _ (l : RasterLayout) (s : Sound (record_faults l)) (plain : packed l ≡ 
   pub plane_is : l.fields.separate ≡ true → (l.plane_len ≡ l.fields.w * l.fields.h * l.fields.bytes) × (l.scratch_len ≡ l.fields.ch * l.plane_len)
   unfolding plane_channels planes plane_length scratch_length
   plane_is e =
-      let row : l.encoded_width ≡ encoded_width l.fields = (record_agreed l s).encoded-width in
-      (rw (← row, row_is l s plain, (plain-one l s plain).0, e) at (record_agreed l s).plane-length, rw (← (record_agreed l s).plane-length, e, mul_comm) at (record_agreed l s).scratch-length)
+      let row : l.encoded_width ≡ encoded_width l.fields = (record_agreed l s).encoded_width_lem in
+      (rw (← row, row_is l s plain, (plain-one l s plain).0, e) at (record_agreed l s).plane_length_lem, rw (← (record_agreed l s).plane_length_lem, e, mul_comm) at (record_agreed l s).scratch_length_lem)
 
   pub together-is : l.fields.separate ≡ false → l.scratch_len ≡ l.fields.w * l.fields.h * (l.fields.ch * l.fields.bytes)
   unfolding plane_channels planes

@@ -48,7 +48,7 @@ module _ {l : RasterLayout} {file raw : List ℕ} {y : ℕ} {out : List ℕ} (ro
 
   encoded : l.encoded_width ≡ (l.fields.w - 1) / l.fields.slots + 1
   unfolding encoded_width
-  encoded = (record_agreed l row.sound).encoded-width
+  encoded = (record_agreed l row.sound).encoded_width_lem
 
   module _ (e : l.fields.palette ≡ true) where
     three : row_bytes l ≡ l.fields.w * 3

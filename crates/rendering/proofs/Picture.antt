@@ -38,7 +38,7 @@ module _ {l : RasterLayout} {file raw old : List ℕ} (served : RenderServed l f
       let shown = record_accepted l served.sound in
       let pixel : 1 * (l.fields.ch * l.fields.bytes) ≤ l.fields.w * (l.fields.ch * l.fields.bytes) = mul-le-mul_right (l.fields.ch * l.fields.bytes) shown.wide in
       let one : 1 * row_bytes l ≤ l.fields.h * row_bytes l = mul-le-mul_right (row_bytes l) shown.high in
-      (omega (arith, one-mul (l.fields.ch * l.fields.bytes)), omega (arith, one-mul (row_bytes l), output_rows l served.sound, (record_agreed l served.sound).output-length, shown.size))
+      (omega (arith, one-mul (l.fields.ch * l.fields.bytes)), omega (arith, one-mul (row_bytes l), output_rows l served.sound, (record_agreed l served.sound).output_length_lem, shown.size))
 
   module _ {y at : ℕ} {out : List ℕ} (is : RenderedRows l file raw old y at out) where
     module _ (more : y < l.fields.h) where

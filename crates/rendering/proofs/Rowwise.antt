@@ -46,9 +46,9 @@ module _ {l : RasterLayout} {raw : List ℕ} {y : ℕ} {out : List ℕ} (row : P
   unfolding plane_length
   plane_rows =
       let agreed = record_agreed l row.sound in
-      agreed.plane-length
-      ∙ ap (λ (n : ℕ). n * l.fields.h * plane_channels l.fields) (sym agreed.encoded-width)
-      ∙ ap (λ (n : ℕ). l.encoded_width * l.fields.h * n) (sym agreed.plane-channels)
+      agreed.plane_length_lem
+      ∙ ap (λ (n : ℕ). n * l.fields.h * plane_channels l.fields) (sym agreed.encoded_width_lem)
+      ∙ ap (λ (n : ℕ). l.encoded_width * l.fields.h * n) (sym agreed.plane_channels_lem)
       ∙ ap (λ (n : ℕ). n * l.plane_channels) (mul_comm l.encoded_width l.fields.h)
       ∙ mul_assoc l.fields.h l.encoded_width l.plane_channels
 
@@ -61,7 +61,7 @@ module _ {l : RasterLayout} {raw : List ℕ} {y : ℕ} {out : List ℕ} (row : P
   unfolding scratch_length planes
   plane_limited =
       let agreed = record_agreed l row.sound in
-      let size : l.scratch_len ≡ l.plane_len * l.planes = agreed.scratch-length ∙ ap (λ (n : ℕ). n * planes l.fields) (sym agreed.plane-length) ∙ ap (λ (n : ℕ). l.plane_len * n) (sym agreed.planes) in
+      let size : l.scratch_len ≡ l.plane_len * l.planes = agreed.scratch_length_lem ∙ ap (λ (n : ℕ). n * planes l.fields) (sym agreed.plane_length_lem) ∙ ap (λ (n : ℕ). l.plane_len * n) (sym agreed.planes) in
       let some : 1 ≤ l.planes = rw agreed.planes (by l.fields.separate) in
       let one : l.plane_len * 1 ≤ l.plane_len * l.planes = mul-le-mul_left l.plane_len some in
       omega (arith, mul-one l.plane_len, scratch_limited l row.sound)
@@ -81,7 +81,7 @@ module _ {l : RasterLayout} {raw : List ℕ} {y : ℕ} {out : List ℕ} (row : P
     row_apart : plane_row l ≡ l.fields.w * l.fields.bytes
     unfolding plane_channels
     row_apart =
-        let bytes : l.plane_channels ≡ l.fields.bytes = rw ((plain-one l row.sound row.plain).0, e) at (record_agreed l row.sound).plane-channels in
+        let bytes : l.plane_channels ≡ l.fields.bytes = rw ((plain-one l row.sound row.plain).0, e) at (record_agreed l row.sound).plane_channels_lem in
         ap (λ (n : ℕ). n * l.plane_channels) (row_is l row.sound row.plain) ∙ ap (λ (n : ℕ). l.fields.w * n) bytes
 
     pub planes-fit : PlanesFit raw l.plane_len (y * plane_row l) l.fields.ch l.fields.bytes out
@@ -112,7 +112,7 @@ module _ {l : RasterLayout} {raw : List ℕ} {y : ℕ} {out : List ℕ} (row : P
     row-together : plane_row l ≡ row_bytes l
     unfolding plane_channels
     row-together =
-        let bytes : l.plane_channels ≡ l.fields.ch * l.fields.bytes = rw ((plain-one l row.sound row.plain).0, e) at (record_agreed l row.sound).plane-channels in
+        let bytes : l.plane_channels ≡ l.fields.ch * l.fields.bytes = rw ((plain-one l row.sound row.plain).0, e) at (record_agreed l row.sound).plane_channels_lem in
         ap (λ (n : ℕ). n * l.plane_channels) (row_is l row.sound row.plain) ∙ ap (λ (n : ℕ). l.fields.w * n) bytes
 
     pub part_inside : y * plane_row l + length out ≤ length raw

@@ -42,7 +42,7 @@ module _ (raw : List ℕ) (first channels width : ℕ) (le out_le : Bool) (start
     channel_below = rw is.here (mod-lt (first + at / width) (omega (arith, fits.here)))
 
     pub sums_same : length sums ≡ length start
-    sums_same = ap length is.sums-are ∙ after-long first channels width (word_of width le raw) start (at / width)
+    sums_same = ap length is.sums_are ∙ after-long first channels width (word_of width le raw) start (at / width)
 
     pub channel-held : channel < length sums
     channel-held = omega (arith, channel_below, fits.held, fits.long, sums_same)
@@ -58,17 +58,17 @@ module _ (raw : List ℕ) (first channels width : ℕ) (le out_le : Bool) (start
       run_turned x new next e put on =
           let n = at / width in
           let word : word_of width le raw n ≡ word_at raw at width le = ap (λ (k : ℕ). word_at raw k width le) (back_at is.upto) in
-          let value : x ≡ sample_after first channels width (word_of width le raw) start n = e ∙ rw (← word, is.sums-are, is.here) in
+          let value : x ≡ sample_after first channels width (word_of width le raw) start n = e ∙ rw (← word, is.sums_are, is.here) in
           record {
             upto = L.turned is.upto fits.words more (omega (arith, fits.same)) x new value put;
             here = on ∙ rw (is.here, next_word, ← add_assoc first n 1) (sym (turned (first + n) channels (omega (arith, fits.here))));
-            sums_are = rw (next_word, add-one, is.here, is.sums-are, value);
+            sums_are = rw (next_word, add-one, is.here, is.sums_are, value);
           }
 
     pub run_ended : length raw ≤ at → RanInto raw first channels width le out_le start sums out
     run_ended l =
         let all : at ≡ length raw = omega (arith, is.upto.inside) in
-        record { sums = rw all at is.sums-are; wrote = ended is.upto l ∙ filled-all (length raw) _ old (omega (arith, fits.same)) }
+        record { sums = rw all at is.sums_are; wrote = ended is.upto l ∙ filled-all (length raw) _ old (omega (arith, fits.same)) }
 
 -- whole pixels: the sum of the channel that comes d words on is what is carried into that word
 module _ (raw : List ℕ) (channels width : ℕ) (le : Bool) (start : List ℕ) (some : 0 < channels) (held : channels ≤ length start) where

@@ -56,40 +56,40 @@ module _ (l : RasterLayout) (t : Taken l) where
   valid_sides_and_channels = (taken_valid l t).0.some
 
   pub valid_bytes : ((l.fields.bytes ≡ 1) ⊎ (l.fields.bytes ≡ 2)) ⊎ (l.fields.bytes ≡ 8)
-  valid_bytes = (taken_valid l t).0.byte-widths
+  valid_bytes = (taken_valid l t).0.byte_widths
 
   pub valid_eight_bytes : l.fields.bytes ≡ 8 → ((((l.fields.white ≡ false) × (l.fields.palette ≡ false)) × (l.fields.alpha ≡ 0)) × (l.fields.slots ≡ 1)) × ((l.fields.ch ≡ 1) ⊎ (l.fields.ch ≡ 3))
-  valid_eight_bytes = (taken_valid l t).0.eight-bytes
+  valid_eight_bytes = (taken_valid l t).0.eight_bytes
 
   pub valid_alpha_kinds : l.fields.alpha ≤ 2
-  valid_alpha_kinds = (taken_valid l t).0.alpha-kinds
+  valid_alpha_kinds = (taken_valid l t).0.alpha_kinds
 
   pub valid_with_alpha : (l.fields.alpha ≡ 0 → ⊥) → ((l.fields.bytes ≡ 1) × ((l.fields.ch ≡ 2) ⊎ (l.fields.ch ≡ 4))) × (l.fields.palette ≡ false)
-  valid_with_alpha = (taken_valid l t).0.with-alpha
+  valid_with_alpha = (taken_valid l t).0.with_alpha
 
   pub valid_with_palette : l.fields.palette ≡ true → ((((l.fields.ch ≡ 3) × (l.fields.bytes ≡ 1)) × (((l.fields.slots ≡ 1) ⊎ (l.fields.slots ≡ 2)) ⊎ (l.fields.slots ≡ 8))) × (l.fields.separate ≡ false)) × (l.fields.alpha ≡ 0)
-  valid_with_palette = (taken_valid l t).0.with-palette
+  valid_with_palette = (taken_valid l t).0.with_palette
 
   pub valid_without_palette : l.fields.palette ≡ false → (l.fields.slots ≡ 1) ⊎ ((((l.fields.slots ≡ 8) × (l.fields.ch ≡ 1)) × (l.fields.bytes ≡ 1)) × (l.fields.alpha ≡ 0))
-  valid_without_palette = (taken_valid l t).0.without-palette
+  valid_without_palette = (taken_valid l t).0.without_palette
 
   pub valid_encoded_width : l.encoded_width ≡ (l.fields.w - 1) / l.fields.slots + 1
-  valid_encoded_width = (taken_valid l t).0.encoded-width
+  valid_encoded_width = (taken_valid l t).0.encoded_width_lem
 
   pub valid_plane_channels : l.plane_channels ≡ pick l.fields.palette 1 (pick l.fields.separate l.fields.bytes (l.fields.ch * l.fields.bytes))
-  valid_plane_channels = (taken_valid l t).0.plane-channels
+  valid_plane_channels = (taken_valid l t).0.plane_channels_lem
 
   pub valid_planes : l.planes ≡ pick l.fields.separate l.fields.ch 1
   valid_planes = (taken_valid l t).0.planes
 
   pub valid_plane_length : l.plane_len ≡ l.encoded_width * l.fields.h * l.plane_channels
-  valid_plane_length = (taken_valid l t).0.plane-length
+  valid_plane_length = (taken_valid l t).0.plane_length_lem
 
   pub valid_scratch_length : l.scratch_len ≡ l.plane_len * l.planes
-  valid_scratch_length = (taken_valid l t).0.scratch-length
+  valid_scratch_length = (taken_valid l t).0.scratch_length_lem
 
   pub valid_output_length : l.output_len ≡ l.fields.w * l.fields.h * l.fields.ch * l.fields.bytes
-  valid_output_length = (taken_valid l t).0.output-length
+  valid_output_length = (taken_valid l t).0.output_length_lem
 
   pub valid_colors : l.colors ≡ pick (eqb l.fields.slots 8) 2 (pick (eqb l.fields.slots 2) 16 256)
   valid_colors = (taken_valid l t).0.colours
@@ -123,7 +123,7 @@ module _ (l : RasterLayout) (k : ℕ) where
 -- what `well_formed` says of a layout besides, with step 3's limit for its largest output
 module _ (l : RasterLayout) (v : Valid l) (t : Within l) where
   bytes-some : 0 < l.fields.bytes
-  bytes-some = by v.byte-widths
+  bytes-some = by v.byte_widths
     where
       by : ((l.fields.bytes ≡ 1) ⊎ (l.fields.bytes ≡ 2)) ⊎ (l.fields.bytes ≡ 8) → 0 < l.fields.bytes
       by (inl (inl e)) = omega arith
@@ -141,15 +141,15 @@ module _ (l : RasterLayout) (v : Valid l) (t : Within l) where
 
   pub well_formed_plane_length : 0 < l.plane_len
   well_formed_plane_length =
-      let row : 0 < l.encoded_width = omega (arith, v.encoded-width) in
-      let place : 0 < l.plane_channels = rw v.plane-channels (place-some l.fields.palette l.fields.separate) in
-      rw v.plane-length (mul-pos (mul-pos row v.some.0.1) place)
+      let row : 0 < l.encoded_width = omega (arith, v.encoded_width_lem) in
+      let place : 0 < l.plane_channels = rw v.plane_channels_lem (place-some l.fields.palette l.fields.separate) in
+      rw v.plane_length_lem (mul-pos (mul-pos row v.some.0.1) place)
 
   pub well_formed_planes : (1 ≤ l.planes) × (l.planes ≤ 4)
   well_formed_planes = rw v.planes (few l.fields.separate)
 
   pub well_formed_lengths : (l.output_len ≤ byte_limit) × (l.scratch_len ≤ byte_limit)
-  well_formed_lengths = (rw v.output-length t.size, scratch_limited l (valid_record_sound l v t))
+  well_formed_lengths = (rw v.output_length_lem t.size, scratch_limited l (valid_record_sound l v t))
 
 -- the per-byte `convert`, and `render_native`: our `render`
 pub record RenderPremises (l : RasterLayout) (file raw old : List ℕ) : Type 0 where

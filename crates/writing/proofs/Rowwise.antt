@@ -46,7 +46,7 @@ module _ (l : RasterLayout) (s : Sound (record_faults l)) (bare : l.fields.palet
   -- a pixel has as many bytes in the planes as in the picture, or eight have one
   place-wide : l.plane_channels ≡ l.fields.ch * l.fields.bytes
   unfolding plane_channels
-  place-wide = (record_agreed l s).plane-channels ∙ by shape l.fields.separate refl
+  place-wide = (record_agreed l s).plane_channels_lem ∙ by shape l.fields.separate refl
     where
       by : (l.fields.slots ≡ 8) ⊎ ((packed l ≡ false) × (l.fields.separate ≡ false)) → (t : Bool) → l.fields.separate ≡ t → plane_channels l.fields ≡ l.fields.ch * l.fields.bytes
       by (inl e) true t = let one = (bilevel (record_accepted l s) bare e).0 in rw (bare, t, one.0, one.1)
@@ -64,7 +64,7 @@ module _ (l : RasterLayout) (s : Sound (record_faults l)) (bare : l.fields.palet
 
     bilevel_eighths : l.encoded_width ≡ eighths l.fields.w
     unfolding encoded_width
-    bilevel_eighths = rw eight at (record_agreed l s).encoded-width ∙ omega (arith, (record_accepted l s).wide)
+    bilevel_eighths = rw eight at (record_agreed l s).encoded_width_lem ∙ omega (arith, (record_accepted l s).wide)
 
   plain_row_same : packed l ≡ false → plane_row l ≡ row_bytes l
   plain_row_same plain = rw (place-wide, row_is l s plain)
@@ -86,7 +86,7 @@ module _ (l : RasterLayout) (s : Sound (record_faults l)) (bare : l.fields.palet
   rows_few =
       let shown = record_accepted l s in
       let few : l.fields.ch * l.fields.bytes ≤ 32 = bytes-few l.fields shown in
-      let encoded : l.encoded_width ≤ side_limit = omega (arith, encoded_side l.fields shown, (record_agreed l s).encoded-width) in
+      let encoded : l.encoded_width ≤ side_limit = omega (arith, encoded_side l.fields shown, (record_agreed l s).encoded_width_lem) in
       ((few, mul-le-mul shown.width few), rw place-wide (mul-le-mul encoded few))
 
   -- a bilevel row: each byte has eight columns

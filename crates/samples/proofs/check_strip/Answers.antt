@@ -19,10 +19,10 @@ use Rattle.samples.proofs.check_strip.Goals as goal
 
 pub overflow_mul-channels : goal.overflow_mul-channels
 overflow_mul-channels c =
-    let allowed : served c.args.width ≡ true = sym c.width_served.ensures ∙ not-false _ c.if-not-width_served.false in
+    let allowed : served c.args.width ≡ true = sym c.width_served.ensures ∙ c.if-not-width_served.false in
     record { fits = lt_of_le_of_lt (mul-le-mul c.if-channels-gt64.false (served-some _ allowed).1) (lit< tt) }
 
 pub nonzero_rem-row_bytes : goal.nonzero_rem-row_bytes
 nonzero_rem-row_bytes c =
-    let allowed : served c.args.width ≡ true = sym c.width_served.ensures ∙ not-false _ c.if-not-width_served.false in
+    let allowed : served c.args.width ≡ true = sym c.width_served.ensures ∙ c.if-not-width_served.false in
     mul-pos (omega arith) (served-some _ allowed).0

@@ -22,13 +22,13 @@ use Rattle.samples.proofs.reorder.Goals as goal
 
 pub nonzero_rem-raw : goal.nonzero_rem-raw
 nonzero_rem-raw c =
-    let allowed : served c.args.width ≡ true = sym c.width_served.ensures ∙ not-false _ c.if-not-width_served.false in
+    let allowed : served c.args.width ≡ true = sym c.width_served.ensures ∙ c.if-not-width_served.false in
     (served-some _ allowed).0
 
 pub returns-then-orders_differ : goal.returns-then-orders_differ
 returns-then-orders_differ c =
     let faults : List Fault = reorder_faults c.args.raw.now c.args.width c.args.out.now in
-    let allowed : served c.args.width ≡ true = sym c.width_served.ensures ∙ not-false _ c.if-not-width_served.false in
+    let allowed : served c.args.width ≡ true = sym c.width_served.ensures ∙ c.if-not-width_served.false in
     let past1 : Past (faults) (drop 1 (faults)) = past_one (past_none _) (ap not (allowed)) in
     let past2 : Past (faults) (drop 2 (faults)) = past_one (past1) (ap not (eq-eqb _ _ c.if-raw-width-ne0.false)) in
     let room : let args = c.args in ltb (length args.out.now) (length args.raw.now) ≡ false = let args = c.args in le-ltb (length args.out.now) (length args.raw.now) (omega (arith, c.if-out-raw.false)) in
@@ -39,13 +39,13 @@ returns-then-orders_differ c =
     let bytes : Bytes c.args.raw.now = λ i. omega (arith, c.type_inv.raw i) in
     let args = c.args in
     hands_on (swap_faults args.raw.now args.width args.out.now) faults tt _ _ args.out.now _ _ swap-sound sound
-    (sym (table_same (length args.raw.now) _ _ (λ k h. other_order args.raw.now bytes args.width (served-some _ allowed).0 k args.le args.out-le (sym c.orders_differ.ensures ∙ c.if-orders_differ.true))))
+    (sym (table_same (length args.raw.now) _ _ (λ k h. other_order args.raw.now bytes args.width (served-some _ allowed).0 k args.le args.out_le (sym c.orders_differ.ensures ∙ c.if-orders_differ.true))))
     c.swap_components.ensures
 
 pub returns-else-orders_differ : goal.returns-else-orders_differ
 returns-else-orders_differ c =
     let faults : List Fault = reorder_faults c.args.raw.now c.args.width c.args.out.now in
-    let allowed : served c.args.width ≡ true = sym c.width_served.ensures ∙ not-false _ c.if-not-width_served.false in
+    let allowed : served c.args.width ≡ true = sym c.width_served.ensures ∙ c.if-not-width_served.false in
     let past1 : Past (faults) (drop 1 (faults)) = past_one (past_none _) (ap not (allowed)) in
     let past2 : Past (faults) (drop 2 (faults)) = past_one (past1) (ap not (eq-eqb _ _ c.if-raw-width-ne0.false)) in
     let room : let args = c.args in ltb (length args.out.now) (length args.raw.now) ≡ false = let args = c.args in le-ltb (length args.out.now) (length args.raw.now) (omega (arith, c.if-out-raw.false)) in
@@ -53,5 +53,5 @@ returns-else-orders_differ c =
     let bytes : Bytes c.args.raw.now = λ i. omega (arith, c.type_inv.raw i) in
     let args = c.args in
     hands_on (commit_faults args.raw.now args.out.now) faults tt _ _ args.out.now _ _ (next room none) sound
-    (sym (table_same (length args.raw.now) _ _ (λ k h. same_order args.raw.now bytes args.width (served-some _ allowed).0 k args.le args.out-le (sym c.orders_differ.ensures ∙ c.if-orders_differ.false))))
+    (sym (table_same (length args.raw.now) _ _ (λ k h. same_order args.raw.now bytes args.width (served-some _ allowed).0 k args.le args.out_le (sym c.orders_differ.ensures ∙ c.if-orders_differ.false))))
     c.commit_uninit.ensures

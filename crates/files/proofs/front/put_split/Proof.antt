@@ -37,10 +37,10 @@ returns c =
     let k = laid start.pre in
     let last = offsets.before.before in
     wrote_on (wrote_on (wrote_on
-    (entry_wrote f each 5 offsets.put-entry.ensures (omega arith) k.strips-said (last.before.before.strips-last.ensures ∙ offsets_last_lem k)) refl
+    (entry_wrote f each 5 offsets.put-entry.ensures (omega arith) k.strips_said (last.before.before.strips-last.ensures ∙ offsets_last_lem k)) refl
     (entry_wrote f each 6 samples.put-entry2.ensures (omega arith) refl refl)) refl
     (entry_wrote f each 7 rows.put-entry3.ensures (omega arith) refl refl)) refl
-    (entry_wrote f each 8 counts.put-entry4.ensures (omega arith) k.strips-said (last.strips-last2.ensures ∙ ap (λ (n : ℕ). pick (in_entry 4 p.strips) n p.counts) last.before.strip-bytes.ensures ∙ counts_last_lem k))
+    (entry_wrote f each 8 counts.put-entry4.ensures (omega arith) k.strips_said (last.strips-last2.ensures ∙ ap (λ (n : ℕ). pick (in_entry 4 p.strips) n p.counts) last.before.strip-bytes.ensures ∙ counts_last_lem k))
 
 pub put-split-spec : {M : Type 1} → statement M
 put-split-spec =

@@ -1,0 +1,22 @@
+-- `layout::check_fields` meets its contract: the three steps' faults, one list after another. Assumes nothing.
+use borrow.Author.Rules.{rules}
+use mathlib.Core.List.{◌++◌}
+use Rattle.answer.specs.Outcome.{Step}
+use Rattle.answer.proofs.Promised.{sound-front, step-sound, step-refused, step-on}
+use Rattle.layout.specs.Layout.{served_faults, agreed_faults}
+use Rattle.layout.proofs.check_fields.Goals as goal
+
+pub check_size-requires : goal.check_size-requires
+check_size-requires c =
+    let steps : let f = c.args.f in Step (served_faults f ++ agreed_faults f) c.first_of.result = c.first_of.ensures _ _ c.check_served-served.ensures c.check_agreed-agreed.ensures in
+    sound-front _ _ (step-sound steps c.in-Done.is)
+
+pub returns-in-Refused : goal.returns-in-Refused
+returns-in-Refused c =
+    let steps : let f = c.args.f in Step (served_faults f ++ agreed_faults f) c.first_of.result = c.first_of.ensures _ _ c.check_served-served.ensures c.check_agreed-agreed.ensures in
+    step-refused _ steps c.in-Refused.is
+
+pub returns-in-Done : goal.returns-in-Done
+returns-in-Done c =
+    let steps : let f = c.args.f in Step (served_faults f ++ agreed_faults f) c.first_of.result = c.first_of.ensures _ _ c.check_served-served.ensures c.check_agreed-agreed.ensures in
+    step-on steps c.in-Done.is c.check_size.ensures

@@ -1,0 +1,18 @@
+-- `layout::check_record` meets its contract: the steps' refusal, then the comparison. Assumes nothing.
+use borrow.Author.Rules.{rules}
+use mathlib.Core.Path.{◌≡◌, ap, ◌∙◌}
+use mathlib.Core.Bool.{not}
+use mathlib.Core.List.{[], ◌∷◌}
+use Rattle.answer.specs.Outcome.{invalid}
+use Rattle.answer.proofs.Promised.{step-sound, step-refused, step-on}
+use Rattle.layout.specs.Layout.{completed, agreement}
+use Rattle.layout.proofs.check_record.Goals as goal
+
+pub complete-requires : goal.complete-requires
+complete-requires c =
+    step-sound c.check_fields.ensures c.in-Done.is
+
+pub returns-in-Done : goal.returns-in-Done
+returns-in-Done c =
+    let compared : let l = c.args.l in c.agrees.result ≡ agreement l (completed l.fields) = let l = c.args.l in c.agrees.ensures ∙ ap (agreement l) c.complete.ensures in
+    let found = rw compared at c.fault.ensures in (step-on c.check_fields.ensures c.in-Done.is found).passed

@@ -1,0 +1,32 @@
+-- `layout::index` meets its contract: the record's refusal, then the position's, then the place. Assumes nothing.
+use borrow.Author.Rules.{rules}
+use borrow.Author.Tests.{le-leb, lt-leb}
+use mathlib.Core.Path.{ap, ◌∙◌}
+use native.Mathlib.Omega.{arith}
+use Rattle.answer.specs.Outcome.{done, Sound, here, next, none}
+use Rattle.answer.proofs.Promised.{refusing, finishing, first_more, sound_then, sound_more, passed, stopped}
+use Rattle.layout.specs.Layout.{record_faults, index_faults, source_index}
+use Rattle.layout.proofs.index.Goals as goal
+
+pub returns-then-l-k : goal.returns-then-l-k
+returns-then-l-k c =
+    let shown : Sound (record_faults c.args.l) = passed _ c.check_record.result c.check_record.ensures c.in-Done.is in
+    let l = c.args.l in
+    let k = c.args.k.0 in refusing (index_faults l k) (source_index l k) (sound_then shown (here (le-leb l.output_len k (omega arith))))
+
+pub source_index-requires : goal.source_index-requires
+source_index-requires c =
+    let shown : Sound (record_faults c.args.l) = passed _ c.check_record.result c.check_record.ensures c.in-Done.is in
+    record { sound = shown; within = omega arith }
+
+pub returns-in-Refused : goal.returns-in-Refused
+returns-in-Refused c =
+    let l = c.args.l in
+    let k = c.args.k.0 in refusing (index_faults l k) (source_index l k) (first_more _ (stopped (record_faults l) _ _ c.check_record.ensures c.in-Refused.is))
+
+pub returns-else-l-k : goal.returns-else-l-k
+returns-else-l-k c =
+    let shown : Sound (record_faults c.args.l) = passed _ c.check_record.result c.check_record.ensures c.in-Done.is in
+    let l = c.args.l in
+    let k = c.args.k.0 in
+    ap done c.source_index.ensures ∙ finishing (index_faults l k) (source_index l k) (sound_more shown (next (lt-leb l.output_len k (omega arith)) none))

@@ -1,0 +1,47 @@
+-- `layout::source::packed_index` meets its contract: nothing divides by 0, and the sum is below the scratch length. Assumes nothing.
+use native.Mathlib.Omega.{arith}
+use mathlib.Core.Path.{refl}
+use Prim.Native.Nat.{◌≤◌}
+use mir.Facts.{Fits-below}
+use Rattle.layout.specs.Layout.{byte_limit, packed_index}
+use Rattle.layout.proofs.Accepted.{Accepted, up_to_eight}
+use Rattle.layout.proofs.Whole.{record_accepted}
+use Rattle.layout.proofs.Placed.{packed_below, scratch_limited}
+use Rattle.layout.proofs.source.packed_index.Goals as goal
+
+pub nonzero_div-result : goal.nonzero_div-result
+unfolding packed_index
+nonzero_div-result c =
+    let known : Accepted c.args.l.fields = record_accepted c.args.l c.requires.0.sound in
+    known.wide
+
+pub overflow_mul-result : goal.overflow_mul-result
+unfolding packed_index
+overflow_mul-result c =
+    let limited : packed_index c.args.l c.args.k ≤ byte_limit = let asked = c.requires.0 in
+    omega (arith, packed_below c.args.l asked.sound c.args.k c.requires.1 asked.within, scratch_limited c.args.l asked.sound) in
+    Fits-below {n = byte_limit} tt (omega (arith, limited))
+
+pub nonzero_rem-result : goal.nonzero_rem-result
+unfolding packed_index
+nonzero_rem-result c =
+    let known : Accepted c.args.l.fields = record_accepted c.args.l c.requires.0.sound in
+    known.wide
+
+pub nonzero_div-result-2 : goal.nonzero_div-result-2
+unfolding packed_index
+nonzero_div-result-2 c =
+    let known : Accepted c.args.l.fields = record_accepted c.args.l c.requires.0.sound in
+    (up_to_eight known.slots).0
+
+pub overflow_add-result : goal.overflow_add-result
+unfolding packed_index
+overflow_add-result c =
+    let limited : packed_index c.args.l c.args.k ≤ byte_limit = let asked = c.requires.0 in
+    omega (arith, packed_below c.args.l asked.sound c.args.k c.requires.1 asked.within, scratch_limited c.args.l asked.sound) in
+    Fits-below {n = byte_limit} tt (omega (arith, limited))
+
+pub returns : goal.returns
+unfolding packed_index
+returns c =
+    refl

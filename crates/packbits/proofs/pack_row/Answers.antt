@@ -1,0 +1,23 @@
+-- `packbits::pack_row` meets its promise: it refuses for want of room alone, and past that writes literals. Assumes nothing.
+use borrow.Author.Rules.{rules}
+use native.Mathlib.Nat.{sub-zero}
+use native.Mathlib.Omega.{arith}
+use Prim.Native.Nat.{◌+◌, ◌≤◌}
+use mathlib.Core.Path.{sym, ◌∙◌}
+use lib.ListN.{length}
+use Rattle.answer.proofs.Filling.{length_part}
+use Rattle.answer.proofs.Promised.{refuses}
+use Rattle.packbits.specs.Plans.{literals_of, plain_plan, plan_bytes, pack_faults}
+use Rattle.packbits.proofs.Onward.{finishes_with, put_part}
+use Rattle.packbits.proofs.Putting.{plain-bytes, pack_first, pack_sound}
+use Rattle.packbits.proofs.pack_row.Goals as goal
+
+pub returns-then-out-n : goal.returns-then-out-n
+returns-then-out-n c =
+    let args = c.args in
+    refuses (pack_faults args.row.now args.out.now) _ _ _ (pack_first args.row.now args.out.now (omega (arith, c.if-out-n.true)))
+
+pub returns-then-out-n-2 : goal.returns-then-out-n-2
+returns-then-out-n-2 c =
+    let args = c.args in
+    refuses (pack_faults args.row.now args.out.now) _ _ _ (pack_first args.row.now args.out.now (omega (arith, c.if-out-n-2.true, c.if-out-n.false, c.literals_of-packets.ensures)))

@@ -1,0 +1,21 @@
+-- `packbits::plans::alike` meets its contract: so far all bytes are the first. Assumes nothing.
+use borrow.Author.Rules.{rules}
+use native.Mathlib.Omega.{arith}
+use Prim.Native.Nat.{ℕ, ◌-◌, ◌≤◌}
+use mathlib.Core.Path.{◌≡◌, refl}
+use mathlib.Core.Bool.{Bool}
+use mathlib.Core.List.{List}
+use lib.ListN.{length, get_or}
+use lib.Dec.{eqb}
+use Rattle.laws.specs.Turns.{every}
+use Rattle.laws.proofs.Turns.{every_more}
+use Rattle.packbits.proofs.plans.alike.Given as goal
+
+abbrev same-as-first : List ℕ → ℕ → Bool
+same-as-first part k = eqb (get_or part k 0) (get_or part 0 0)
+
+abbrev pub invariant-loop-k : goal.invariant-loop-k
+invariant-loop-k l = (l.k ≤ length l.part) × (l.same ≡ every l.k (same-as-first l.part))
+
+abbrev pub decreases-loop-k : goal.decreases-loop-k
+decreases-loop-k l = length l.part - l.k

@@ -1,0 +1,14 @@
+-- `packbits::plans::check_plan` meets its contract: the first packet that breaks a rule decides, then the sum. Assumes nothing.
+use borrow.Author.Tests.{not-true, not-false}
+use native.Mathlib.Omega.{arith}
+use Prim.Native.Nat.{◌+◌, ◌-◌, ◌≤◌}
+use mathlib.Core.Path.{sym, ◌∙◌}
+use lib.ListN.{length, get_or}
+use Rattle.packbits.proofs.Planning.{Checked, checked_none, checked_fails, checked_on, checked_end}
+use Rattle.packbits.proofs.plans.check_plan.Given as goal
+
+abbrev pub invariant-loop-k : goal.invariant-loop-k
+invariant-loop-k l = (l.k ≤ length l.kinds) × Checked l.kinds l.lengths l.row l.at l.k
+
+abbrev pub decreases-loop-k : goal.decreases-loop-k
+decreases-loop-k l = length l.kinds - l.k

@@ -1,0 +1,70 @@
+-- `packbits::row_used` meets its promise: the first packet that has a fault decides. Assumes nothing.
+use borrow.Author.Rules.{rules}
+use native.Mathlib.Nat.{sub-zero}
+use native.Mathlib.Omega.{arith}
+use Prim.Native.Nat.{◌-◌}
+use mathlib.Core.Path.{sym, ◌∙◌}
+use lib.ListN.{length}
+use Rattle.answer.specs.Outcome.{Sound}
+use Rattle.answer.proofs.Promised.{refusing, step-first, step-sound}
+use Rattle.packbits.specs.Rows.{Packet, packet_faults, row_faults}
+use Rattle.packbits.specs.Parts.{begun}
+use Rattle.packbits.proofs.Packets.{Looked, looked_none, looked_first, looked_on, looked_past, looked_end, FitsAt, fits-at, WholeLiteral, whole_literal-is, Nothing, nothing_is}
+use Rattle.packbits.proofs.Onward.{finishing_as}
+use Rattle.packbits.proofs.row_used.Goals as goal
+
+pub loop-left-preserved-then-whole_literal : goal.loop-left-preserved-then-whole_literal
+loop-left-preserved-then-whole_literal c =
+    let whole : WholeLiteral c.args.packed.now c.loop-left.at c.loop-left.left = whole_literal-is _ _ _ (sym c.whole_literal.ensures ∙ c.if-whole_literal.true) in
+    let is = whole in looked_past c.loop-left.invariant c.loop-left-test.true is.kind (omega (arith, is)) is.fits is.there
+
+pub loop-left-preserved-then-does_nothing : goal.loop-left-preserved-then-does_nothing
+loop-left-preserved-then-does_nothing c =
+    let nothing : Nothing c.args.packed.now c.loop-left.at = nothing_is _ _ (sym c.does_nothing.ensures ∙ c.if-does_nothing.true) in
+    let is = nothing in
+    rw (sub-zero c.loop-left.left) at (looked_past c.loop-left.invariant c.loop-left-test.true is.kind is.inside (omega arith) (omega (arith, is.inside)))
+
+pub returns-in-Refused : goal.returns-in-Refused
+returns-in-Refused c =
+    let args = c.args in
+    refusing (row_faults args.packed.now args.row_bytes) _ (looked_first c.loop-left.invariant c.loop-left-test.true (step-first c.check_packet.ensures c.in-Refused.is))
+
+pub bounds-packed-at : goal.bounds-packed-at
+bounds-packed-at c =
+    let begun-at : Packet = begun c.args.packed.now c.loop-left.at c.loop-left.left in
+    let sound : Sound (packet_faults (begun-at)) = step-sound c.check_packet.ensures c.in-Done.is in
+    let fit : FitsAt c.args.packed.now c.loop-left.at c.loop-left.left = fits-at _ _ _ (sound) in
+    omega (arith, fit)
+
+pub overflow_sub-left-else-does_nothing : goal.overflow_sub-left-else-does_nothing
+overflow_sub-left-else-does_nothing c =
+    let begun-at : Packet = begun c.args.packed.now c.loop-left.at c.loop-left.left in
+    let sound : Sound (packet_faults (begun-at)) = step-sound c.check_packet.ensures c.in-Done.is in
+    let fit : FitsAt c.args.packed.now c.loop-left.at c.loop-left.left = fits-at _ _ _ (sound) in
+    omega (arith, fit, c.fills-left.ensures)
+
+pub overflow_add-at-else-does_nothing : goal.overflow_add-at-else-does_nothing
+overflow_add-at-else-does_nothing c =
+    let begun-at : Packet = begun c.args.packed.now c.loop-left.at c.loop-left.left in
+    let sound : Sound (packet_faults (begun-at)) = step-sound c.check_packet.ensures c.in-Done.is in
+    let fit : FitsAt c.args.packed.now c.loop-left.at c.loop-left.left = fits-at _ _ _ (sound) in
+    omega (arith, fit, c.takes-at.ensures)
+
+pub loop-left-smaller : goal.loop-left-smaller
+loop-left-smaller c =
+    let begun-at : Packet = begun c.args.packed.now c.loop-left.at c.loop-left.left in
+    let sound : Sound (packet_faults (begun-at)) = step-sound c.check_packet.ensures c.in-Done.is in
+    let fit : FitsAt c.args.packed.now c.loop-left.at c.loop-left.left = fits-at _ _ _ (sound) in
+    omega (arith, fit, c.takes-at.ensures)
+
+pub loop-left-preserved : goal.loop-left-preserved
+loop-left-preserved c =
+    let begun-at : Packet = begun c.args.packed.now c.loop-left.at c.loop-left.left in
+    let sound : Sound (packet_faults (begun-at)) = step-sound c.check_packet.ensures c.in-Done.is in
+    rw (c.takes-at.ensures, c.fills-left.ensures) (looked_on c.loop-left.invariant c.loop-left-test.true sound)
+
+pub returns : goal.returns
+returns c =
+    let args = c.args in
+    let end = looked_end c.loop-left.invariant (omega (arith, c.loop-left-test.false)) in
+    finishing_as (row_faults args.packed.now args.row_bytes) end.0 (sym end.1)

@@ -1,0 +1,17 @@
+-- `packbits::unpack_row` meets its promise: it refuses as the look at the headers does, and past that the row is filled. Assumes nothing.
+use borrow.Author.Rules.{rules}
+use mathlib.Core.Path.{◌≡◌, refl, ◌∙◌}
+use lib.ListN.{length}
+use Rattle.answer.specs.Outcome.{Sound}
+use Rattle.answer.proofs.Promised.{refuses}
+use Rattle.packbits.specs.Rows.{row_faults, row_bytes, used, used_outcome}
+use Rattle.packbits.proofs.Onward.{finishes_with, put_all}
+use Rattle.packbits.proofs.Packets.{row-filled}
+use Rattle.laws.proofs.Faults.{answered, declined}
+use Rattle.packbits.proofs.unpack_row.Goals as goal
+
+pub fill_row-requires : goal.fill_row-requires
+fill_row-requires c =
+    let done : let args = c.args in let n = length args.row.now in (c.in-Used.n ≡ used args.packed.now n) × Sound (row_faults args.packed.now n) = let packed = c.args.packed.now in
+    let n = length c.args.row.now in answered used_outcome (row_faults packed n) (used packed n) c.row_used.ensures c.in-Used.is refl in
+    done.1

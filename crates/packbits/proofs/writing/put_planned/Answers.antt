@@ -1,0 +1,23 @@
+-- `packbits::writing::put_planned` meets its contract: a literal, or a repeat in two bytes. Assumes nothing.
+use borrow.Author.Rules.{rules}
+use borrow.Author.Tests.{ne_eqb}
+use native.Mathlib.Omega.{arith}
+use Prim.Native.Nat.{◌+◌, ◌-◌, ◌≤◌}
+use lib.ListN.{length, drop, length-drop, length-set}
+use Rattle.packbits.proofs.Planning.{Kept, kept-is}
+use Rattle.packbits.proofs.Putting.{repeat_put}
+use Rattle.packbits.proofs.writing.put_planned.Goals as goal
+
+pub overflow_cast-out : goal.overflow_cast-out
+overflow_cast-out c =
+    let fit : let args = c.args in Kept (drop args.at args.row.now) (record { kind = args.kind; bytes = args.bytes }) = kept-is _ _ c.requires.keeps_rules in
+    omega (arith, fit, (fit.repeats c.if-kind-eq0.false).1.0)
+
+pub bounds-row-at : goal.bounds-row-at
+bounds-row-at c =
+    let fit : let args = c.args in Kept (drop args.at args.row.now) (record { kind = args.kind; bytes = args.bytes }) = kept-is _ _ c.requires.keeps_rules in
+    omega (arith, fit, c.requires.inside, length-drop c.args.at c.args.row.now)
+
+pub returns-else-kind-eq0 : goal.returns-else-kind-eq0
+returns-else-kind-eq0 c =
+    let args = c.args in repeat_put args.row.now args.out.now args.at args.to (record { kind = args.kind; bytes = args.bytes }) c.if-kind-eq0.false c.requires
