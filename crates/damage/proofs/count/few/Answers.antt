@@ -1,0 +1,12 @@
+-- `damage::count::few` meets its contract: the sum so far is the count of the marks passed, and so fits a byte. Assumes nothing.
+use native.Mathlib.Omega.{arith}
+use Prim.Native.Nat.{◌-◌, ◌≤◌}
+use mathlib.Core.Path.{◌≡◌}
+use lib.ListN.{length}
+use Rattle.damage.specs.Marks.{damaged, counted}
+use Rattle.damage.proofs.Loops.{bit_mark, counted_next, counted-most}
+use Rattle.damage.proofs.count.few.Goals as goal
+
+pub overflow_add-sum : goal.overflow_add-sum
+overflow_add-sum c =
+    omega (arith, c.requires.0 c.loop-n.n, c.requires.1, c.loop-n.invariant.1, counted-most c.loop-n.n (damaged c.args.marks.now), c.well_formed)

@@ -1,0 +1,14 @@
+-- `damage::first::first_damaged` meets its contract: all that was passed is sound. Assumes nothing.
+use borrow.Author.Rules.{rules}
+use borrow.Author.Count.{below_more}
+use native.Mathlib.Omega.{arith}
+use Prim.Native.Nat.{◌-◌, ◌≤◌}
+use lib.ListN.{length}
+use Rattle.damage.specs.Passes.{SoundTo}
+use Rattle.damage.proofs.first.first_damaged.Given as goal
+
+abbrev pub invariant-loop-at : goal.invariant-loop-at
+invariant-loop-at l = SoundTo l.damage l.at × (l.at ≤ length l.damage)
+
+abbrev pub decreases-loop-at : goal.decreases-loop-at
+decreases-loop-at l = length l.damage - l.at

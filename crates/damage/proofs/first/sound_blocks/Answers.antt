@@ -1,0 +1,14 @@
+-- `damage::first::sound_blocks` meets its contract: all that was passed is sound. Assumes nothing.
+use borrow.Author.Rules.{rules}
+use borrow.Author.Tests.{not-false}
+use native.Mathlib.Omega.{arith}
+use Prim.Native.Nat.{◌-◌, ◌≤◌}
+use lib.ListN.{length}
+use Rattle.damage.specs.Passes.{SoundTo}
+use Rattle.damage.proofs.Begins.{sound-on}
+use Rattle.damage.proofs.first.sound_blocks.Goals as goal
+
+pub loop-at-preserved : goal.loop-at-preserved
+loop-at-preserved c =
+    let block = c.block_end-end.ensures in
+    (sound-on _ _ _ (omega (arith, block.on)) block.inside c.loop-at.invariant.0 (c.sound.ensures (c.if-not-sound.false)), block.inside)

@@ -1,0 +1,15 @@
+-- `damage::first::sound_blocks` meets its contract: all that was passed is sound. Assumes nothing.
+use borrow.Author.Rules.{rules}
+use borrow.Author.Tests.{not-false}
+use native.Mathlib.Omega.{arith}
+use Prim.Native.Nat.{◌-◌, ◌≤◌}
+use lib.ListN.{length}
+use Rattle.damage.specs.Passes.{SoundTo}
+use Rattle.damage.proofs.Begins.{sound-on}
+use Rattle.damage.proofs.first.sound_blocks.Given as goal
+
+abbrev pub invariant-loop-at : goal.invariant-loop-at
+invariant-loop-at l = SoundTo l.damage l.at × (l.at ≤ length l.damage)
+
+abbrev pub decreases-loop-at : goal.decreases-loop-at
+decreases-loop-at l = length l.damage - l.at

@@ -1,0 +1,14 @@
+-- `damage::mark_rows` meets its contract: the invariant and its laws are in proofs/MarkedRows.antt. Assumes nothing.
+use borrow.Author.Rules.{rules}
+use native.Mathlib.Omega.{arith}
+use Prim.Native.Nat.{◌+◌, ◌-◌, ◌/◌, ◌≤◌}
+use lib.ListN.{length}
+use Rattle.samples.specs.Sample.{strip}
+use Rattle.damage.proofs.MarkedRows.{MarkedRows, marked-rows-none, strip-wide, row-some, row_room, marks-room, row_fits, row_turned, count_room, rows_ended}
+use Rattle.damage.proofs.mark_rows.Given as goal
+
+abbrev pub invariant-loop-at : goal.invariant-loop-at
+invariant-loop-at l = MarkedRows l.damage (strip l.row_bytes l.channels l.width) l.initial.marks l.count l.at l.n l.marks
+
+abbrev pub decreases-loop-at : goal.decreases-loop-at
+decreases-loop-at l = length l.damage - l.at

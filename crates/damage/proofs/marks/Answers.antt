@@ -1,0 +1,51 @@
+-- `damage::marks` meets its promise: the strip check's faults first, then the room; then the marks, which are exact. Assumes nothing.
+use borrow.Author.Rules.{rules}
+use borrow.Author.Tests.{lt-ltb, le-ltb}
+use native.Mathlib.Omega.{arith}
+use mathlib.Core.List.{List}
+use Prim.Native.Nat.{ℕ}
+use lib.ListN.{length}
+use Rattle.answer.specs.Outcome.{here, next, none, Sound}
+use Rattle.answer.proofs.Promised.{passed, stopped, refuses, first_more, sound_then, sound_more}
+use Rattle.samples.specs.Sample.{Strip, strip}
+use Rattle.samples.specs.Promises.{strip_faults}
+use Rattle.samples.proofs.Strips.{good_checked}
+use Rattle.damage.specs.Promises.{samples_of, mark_faults}
+use Rattle.damage.proofs.Promised.{front_fits, exactly, marks-done}
+use Rattle.damage.proofs.marks.Goals as goal
+
+pub returns-then-marks-samples : goal.returns-then-marks-samples
+returns-then-marks-samples c =
+    let given : List ℕ = c.args.damage.now in
+    let geometry : Strip = strip c.args.row_bytes c.args.channels c.args.width in
+    let buffer : List ℕ = c.args.marks.now in
+    let checked : Sound (strip_faults (length (given)) (geometry)) = passed (strip_faults (length (given)) (geometry)) c.check_strip.result c.check_strip.ensures c.in-Done.is in
+    exactly given geometry c.args.predict buffer _ _
+    (refuses (mark_faults given geometry buffer) _ _ _ (sound_then checked (here (lt-ltb (length buffer) (samples_of given geometry) (omega (arith, c.if-marks-samples.true))))))
+
+pub mark_strip-count-requires : goal.mark_strip-count-requires
+mark_strip-count-requires c =
+    let given : List ℕ = c.args.damage.now in
+    let geometry : Strip = strip c.args.row_bytes c.args.channels c.args.width in
+    let buffer : List ℕ = c.args.marks.now in
+    let checked : Sound (strip_faults (length (given)) (geometry)) = passed (strip_faults (length (given)) (geometry)) c.check_strip.result c.check_strip.ensures c.in-Done.is in
+    front_fits given geometry buffer checked (omega (arith, c.if-marks-samples.false))
+
+pub returns-in-Refused : goal.returns-in-Refused
+returns-in-Refused c =
+    let given : List ℕ = c.args.damage.now in
+    let geometry : Strip = strip c.args.row_bytes c.args.channels c.args.width in
+    let buffer : List ℕ = c.args.marks.now in
+    exactly given geometry c.args.predict buffer _ _
+    (refuses (mark_faults given geometry buffer) _ _ _ (first_more _ (stopped (strip_faults (length given) geometry) c.check_strip.result c.in-Refused.k c.check_strip.ensures c.in-Refused.is)))
+
+pub returns-else-marks-samples : goal.returns-else-marks-samples
+returns-else-marks-samples c =
+    let given : List ℕ = c.args.damage.now in
+    let geometry : Strip = strip c.args.row_bytes c.args.channels c.args.width in
+    let buffer : List ℕ = c.args.marks.now in
+    let checked : Sound (strip_faults (length (given)) (geometry)) = passed (strip_faults (length (given)) (geometry)) c.check_strip.result c.check_strip.ensures c.in-Done.is in
+    marks-done given geometry c.args.predict buffer _ _
+    (sound_more checked (next (le-ltb (length buffer) (samples_of given geometry) (omega (arith, c.if-marks-samples.false))) none))
+    (omega (arith, c.if-marks-samples.false))
+    c.mark_strip-count.ensures

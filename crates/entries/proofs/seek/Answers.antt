@@ -1,0 +1,25 @@
+-- `entries::seek` meets its contract: lower tags are passed over. Assumes nothing.
+use Prim.Native.Nat.{◌-◌}
+use Rattle.entries.proofs.Seeking.{seek-on, seek_over}
+use Rattle.entries.specs.Entries.{entry_from, seek, tag_at}
+use borrow.Author.Rules.{rules}
+use mathlib.Core.Path.{◌∙◌, ◌≡◌, refl, sym}
+use native.Mathlib.Omega.{arith}
+use Rattle.entries.proofs.seek.Goals as goal
+
+pub returns-then-tag-tag_at : goal.returns-then-tag-tag_at
+unfolding entry_from
+returns-then-tag-tag_at c =
+    let args = c.args in
+    seek_over (tag_at args.file.now args.d) args.tag c.loop-i.i args.d.n (λ h. rw (← c.tag_at.ensures) c.if-tag-tag_at.true) ∙ c.loop-i.invariant
+
+pub loop-i-preserved : goal.loop-i-preserved
+loop-i-preserved c =
+    let args = c.args in
+    sym (seek-on (tag_at args.file.now args.d) args.tag c.loop-i.i args.d.n c.loop-i-test.true (rw (← c.tag_at.ensures) (omega (arith, c.if-tag-tag_at.false)))) ∙ c.loop-i.invariant
+
+pub returns : goal.returns
+unfolding entry_from
+returns c =
+    let args = c.args in
+    seek_over (tag_at args.file.now args.d) args.tag c.loop-i.i args.d.n (λ h. absurd (omega (arith, c.loop-i-test.false))) ∙ c.loop-i.invariant

@@ -1,0 +1,14 @@
+-- `entries::seek` meets its contract: lower tags are passed over. Assumes nothing.
+use Prim.Native.Nat.{◌-◌}
+use Rattle.entries.proofs.Seeking.{seek-on, seek_over}
+use Rattle.entries.specs.Entries.{entry_from, seek, tag_at}
+use borrow.Author.Rules.{rules}
+use mathlib.Core.Path.{◌∙◌, ◌≡◌, refl, sym}
+use native.Mathlib.Omega.{arith}
+use Rattle.entries.proofs.seek.Given as goal
+
+abbrev pub invariant-loop-i : goal.invariant-loop-i
+invariant-loop-i l = seek (tag_at l.file l.d) l.tag l.i (l.d.n - l.i) ≡ seek (tag_at l.file l.d) l.tag l.from (l.d.n - l.from)
+
+abbrev pub decreases-loop-i : goal.decreases-loop-i
+decreases-loop-i l = l.d.n - l.i

@@ -1,0 +1,19 @@
+-- `entries::walk::ascending` meets its contract: each tag is held against the next. Assumes nothing.
+use Prim.Native.Nat.{◌+◌, ◌-◌, ◌≤◌, ℕ}
+use Rattle.entries.specs.Entries.{ascending, tag_at}
+use Rattle.entries.specs.declared.Directory.{Directory}
+use Rattle.laws.proofs.Turns.{every_more}
+use Rattle.laws.specs.Turns.{every}
+use borrow.Author.Rules.{rules}
+use lib.Dec.{ltb}
+use mathlib.Core.Bool.{Bool}
+use mathlib.Core.List.{List}
+use mathlib.Core.Path.{◌≡◌, refl}
+use native.Mathlib.Omega.{arith}
+use Rattle.entries.proofs.walk.ascending.Goals as goal
+
+pub returns : goal.returns
+unfolding ascending
+returns c =
+    let end : c.loop-i.i ≡ c.args.d.n - 1 = omega (arith, c.loop-i.invariant.0, c.loop-i-test.false) in
+    rw end at c.loop-i.invariant.1

@@ -1,0 +1,14 @@
+-- `pixels::divide_pixels` meets its contract: the invariant and its laws are in proofs/Pixels.antt, and shares are looked up. Assumes nothing.
+use borrow.Author.Rules.{rules}
+use native.Mathlib.Omega.{arith}
+use Prim.Native.Nat.{◌+◌, ◌-◌, ◌≤◌, ◌<◌}
+use mathlib.Core.Bool.{true}
+use lib.ListN.{length, get_or}
+use Rattle.pixels.proofs.Pixels.{Straight, straight_start, pixel_room, pixel_given, pixel_turned, straight_end}
+use Rattle.pixels.proofs.divide_pixels.Given as goal
+
+abbrev pub invariant-loop-at : goal.invariant-loop-at
+invariant-loop-at l = Straight l.initial.s l.channels true l.white l.at l.s
+
+abbrev pub decreases-loop-at : goal.decreases-loop-at
+decreases-loop-at l = length l.initial.s - l.at

@@ -1,0 +1,12 @@
+-- `pixels::straighten` meets its contract: a colour times a share, held at 255 before it is rounded. Assumes nothing.
+use native.Mathlib.Nat.{mul-le-mul}
+use native.Mathlib.Omega.{arith}
+use Prim.Native.Nat.{◌*◌, ◌≤◌}
+use mathlib.Core.Logic.{⊎_elim, inl, inr}
+use Rattle.pixels.proofs.Straight.{straight_held}
+use Rattle.pixels.proofs.straighten.Goals as goal
+
+pub returns : goal.returns
+returns c a alpha e =
+    let args = c.args in
+    straight_held args.u a args.share c.if-full-lt33423360.held (omega arith) alpha e (⊎_elim (λ w. inl (w.0.taken, w.1)) (λ w. inr (omega arith, w.1)) c.if-full-lt33423360.branch)

@@ -1,0 +1,15 @@
+-- `rows::differences::differences` meets its contract, at every width: what is stored up to `at` are the differences. Assumes nothing.
+use Rattle.std.proofs.Common.{ℕ, ◌+◌, ◌-◌, ◌*◌, ◌≤◌, true, length, ap, ◌∙◌, arith, rules}
+use Rattle.words.specs.Word.{Bytes, word_at, minus}
+use Rattle.words.proofs.Words.{word_below}
+use Rattle.samples.specs.Sample.{difference}
+use Rattle.rows.specs.Row.{one_row}
+use Rattle.rows.proofs.Loops.{Upto, led_upto, trail_room, difference_turned, ended}
+use Rattle.rows.proofs.differences.differences.Given as goal
+
+abbrev pub invariant-loop-at : goal.invariant-loop-at
+invariant-loop-at l =
+    Upto (difference (one_row l.raw l.channels l.width) true l.le l.raw) l.width l.out_le (length l.raw) l.initial.out l.at l.out × (l.channels * l.width ≤ l.at)
+
+abbrev pub decreases-loop-at : goal.decreases-loop-at
+decreases-loop-at l = length l.raw - l.at

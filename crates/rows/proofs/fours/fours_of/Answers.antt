@@ -1,0 +1,118 @@
+-- `rows::fours::fours_of` meets its contract, at every width: what is stored up to `at` are the samples, and each local is its channel's sum so far.
+-- Assumes nothing.
+use Rattle.std.proofs.Common.{◌≡◌, ◌+◌, ◌-◌, ◌*◌, ◌/◌, ◌%◌, ◌≤◌, length, ◌∙◌, arith, rules}
+use native.Mathlib.Nat.{zero-mod, add-mod_right}
+use Rattle.laws.proofs.Groups.{group_room}
+use Rattle.rows.specs.Row.{resumed}
+use Rattle.rows.proofs.Loops.{Upto, upto_none, carried, carried_start, next-sum, ended}
+use Rattle.rows.proofs.fours.fours_of.Goals as goal
+
+pub loop-at-init : goal.loop-at-init
+loop-at-init c =
+    let wide = c.requires.fits.wide in (
+      upto_none _ _ _ _ _,
+      zero-mod _,
+      carried_start _ 4 _ _ _ 0 _ wide (omega arith) (omega arith),
+      carried_start _ 4 _ _ _ 1 _ wide (omega arith) (omega arith),
+      carried_start _ 4 _ _ _ 2 _ wide (omega arith) (omega arith),
+      carried_start _ 4 _ _ _ 3 _ wide (omega arith) (omega arith),
+    )
+
+pub overflow_add-second : goal.overflow_add-second
+overflow_add-second c =
+    let room : c.loop-at.at + 4 * c.args.width ≤ length c.args.raw.now = group_room (4 * c.args.width) _ c.loop-at.at c.requires.fits.groups c.loop-at.invariant.1 c.loop-at-test.true in
+    omega (arith, room, c.well_formed)
+
+pub overflow_add-third : goal.overflow_add-third
+overflow_add-third c =
+    let room : c.loop-at.at + 4 * c.args.width ≤ length c.args.raw.now = group_room (4 * c.args.width) _ c.loop-at.at c.requires.fits.groups c.loop-at.invariant.1 c.loop-at-test.true in
+    omega (arith, room, c.well_formed)
+
+pub overflow_add-fourth : goal.overflow_add-fourth
+overflow_add-fourth c =
+    let room : c.loop-at.at + 4 * c.args.width ≤ length c.args.raw.now = group_room (4 * c.args.width) _ c.loop-at.at c.requires.fits.groups c.loop-at.invariant.1 c.loop-at-test.true in
+    omega (arith, room, c.well_formed)
+
+pub sum-a-requires : goal.sum-a-requires
+sum-a-requires c =
+    let room : c.loop-at.at + 4 * c.args.width ≤ length c.args.raw.now = group_room (4 * c.args.width) _ c.loop-at.at c.requires.fits.groups c.loop-at.invariant.1 c.loop-at-test.true in
+    (c.requires.takes, omega (arith, room))
+
+pub sum-b-requires : goal.sum-b-requires
+sum-b-requires c =
+    let room : c.loop-at.at + 4 * c.args.width ≤ length c.args.raw.now = group_room (4 * c.args.width) _ c.loop-at.at c.requires.fits.groups c.loop-at.invariant.1 c.loop-at-test.true in
+    (c.requires.takes, omega (arith, room))
+
+pub sum-c-requires : goal.sum-c-requires
+sum-c-requires c =
+    let room : c.loop-at.at + 4 * c.args.width ≤ length c.args.raw.now = group_room (4 * c.args.width) _ c.loop-at.at c.requires.fits.groups c.loop-at.invariant.1 c.loop-at-test.true in
+    (c.requires.takes, omega (arith, room))
+
+pub sum-d-requires : goal.sum-d-requires
+sum-d-requires c =
+    let room : c.loop-at.at + 4 * c.args.width ≤ length c.args.raw.now = group_room (4 * c.args.width) _ c.loop-at.at c.requires.fits.groups c.loop-at.invariant.1 c.loop-at-test.true in
+    (c.requires.takes, omega (arith, room))
+
+pub put-requires : goal.put-requires
+put-requires c =
+    let room : c.loop-at.at + 4 * c.args.width ≤ length c.args.raw.now = group_room (4 * c.args.width) _ c.loop-at.at c.requires.fits.groups c.loop-at.invariant.1 c.loop-at-test.true in
+    let free : c.loop-at.at + 4 * c.args.width ≤ length c.loop-at.out = omega (arith, room, c.loop-at.invariant.0.same, c.requires.fits.room) in
+    (c.requires.takes, omega (arith, free))
+
+pub put-requires-in-loop-at : goal.put-requires-in-loop-at
+put-requires-in-loop-at c =
+    let room : c.loop-at.at + 4 * c.args.width ≤ length c.args.raw.now = group_room (4 * c.args.width) _ c.loop-at.at c.requires.fits.groups c.loop-at.invariant.1 c.loop-at-test.true in
+    let free : c.loop-at.at + 4 * c.args.width ≤ length c.loop-at.out = omega (arith, room, c.loop-at.invariant.0.same, c.requires.fits.room) in
+    (c.requires.takes, omega (arith, free))
+
+pub put-requires-in-loop-at-2 : goal.put-requires-in-loop-at-2
+put-requires-in-loop-at-2 c =
+    let room : c.loop-at.at + 4 * c.args.width ≤ length c.args.raw.now = group_room (4 * c.args.width) _ c.loop-at.at c.requires.fits.groups c.loop-at.invariant.1 c.loop-at-test.true in
+    let free : c.loop-at.at + 4 * c.args.width ≤ length c.loop-at.out = omega (arith, room, c.loop-at.invariant.0.same, c.requires.fits.room) in
+    (c.requires.takes, omega (arith, free))
+
+pub put-requires-in-loop-at-3 : goal.put-requires-in-loop-at-3
+put-requires-in-loop-at-3 c =
+    let room : c.loop-at.at + 4 * c.args.width ≤ length c.args.raw.now = group_room (4 * c.args.width) _ c.loop-at.at c.requires.fits.groups c.loop-at.invariant.1 c.loop-at-test.true in
+    let free : c.loop-at.at + 4 * c.args.width ≤ length c.loop-at.out = omega (arith, room, c.loop-at.invariant.0.same, c.requires.fits.room) in
+    (c.requires.takes, omega (arith, free))
+
+pub overflow_mul-at : goal.overflow_mul-at
+overflow_mul-at c =
+    let room : c.loop-at.at + 4 * c.args.width ≤ length c.args.raw.now = group_room (4 * c.args.width) _ c.loop-at.at c.requires.fits.groups c.loop-at.invariant.1 c.loop-at-test.true in
+    omega (arith, room, c.well_formed)
+
+pub overflow_add-at : goal.overflow_add-at
+overflow_add-at c =
+    let room : c.loop-at.at + 4 * c.args.width ≤ length c.args.raw.now = group_room (4 * c.args.width) _ c.loop-at.at c.requires.fits.groups c.loop-at.invariant.1 c.loop-at-test.true in
+    omega (arith, room, c.well_formed)
+
+pub loop-at-preserved : goal.loop-at-preserved
+loop-at-preserved c =
+    let room : c.loop-at.at + 4 * c.args.width ≤ length c.args.raw.now = group_room (4 * c.args.width) _ c.loop-at.at c.requires.fits.groups c.loop-at.invariant.1 c.loop-at-test.true in
+    let c-put = c in
+    let b-put = stored3 c-put in
+    let a-put = stored2 b-put in
+    let d-sum = stored a-put in
+    let c-sum = d-sum.before in
+    let b-sum = c-sum.before in
+    let a_sum = b-sum.before in
+    let in-loop = a_sum.before in
+    let at = in-loop.before.loop in
+    let fits = (start in-loop).pre.fits in
+    let args = (start in-loop).args in
+    let le = args.le in
+    let from = args.start.now in
+    let w = args.width in
+    let a-next = next-sum le from fits at.inv.0 (omega (arith, room, fits.wide)) at.inv.2 a_sum.sum.ensures a-put.put.ensures (at.at + 4 * w) (omega arith) in
+    let b-next = next-sum le from fits a-next.0 (omega (arith, room, fits.wide)) at.inv.3 b-sum.sum2.ensures b-put.put2.ensures (at.at + 4 * w + w) (omega arith) in
+    let c-next = next-sum le from fits b-next.0 (omega (arith, room, fits.wide)) at.inv.4 c-sum.sum3.ensures c-put.put3.ensures (at.at + 4 * w + w + w) (omega arith) in
+    let d-next = next-sum le from fits c-next.0 (omega (arith, room, fits.wide)) at.inv.5 d-sum.sum4.ensures c.put-in-loop-at-3.ensures (at.at + 4 * w + w + w + w) (omega arith) in
+    let on : at.at + w + w + w + w ≡ at.at + 4 * w = omega arith in (
+      rw on at d-next.0,
+      add-mod_right at.at (4 * w) ∙ at.inv.1,
+      a-next.1,
+      b-next.1,
+      c-next.1,
+      d-next.1,
+    )

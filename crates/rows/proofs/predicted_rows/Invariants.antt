@@ -1,0 +1,13 @@
+-- `rows::predicted_rows` meets its contract: the invariant and its laws are in proofs/Rows.antt. Assumes nothing.
+use Rattle.std.proofs.Common.{◌-◌, ◌<◌, true, length, arith, rules}
+use Rattle.samples.specs.Sample.{strip, Good, stored_at}
+use Rattle.samples.proofs.Strips.{good_checked}
+use Rattle.rows.specs.Row.{meant}
+use Rattle.rows.proofs.Rows.{RowsUpto, rows_none, row_room, row_free, part_served, row-meant, row_turned, rows_ended}
+use Rattle.rows.proofs.predicted_rows.Given as goal
+
+abbrev pub invariant-loop-at : goal.invariant-loop-at
+invariant-loop-at l = RowsUpto (stored_at l.width l.out_le (meant l.forward (strip l.row_bytes l.channels l.width) true l.le l.raw)) l.raw (strip l.row_bytes l.channels l.width) l.initial.out l.at l.out
+
+abbrev pub decreases-loop-at : goal.decreases-loop-at
+decreases-loop-at l = length l.raw - l.at

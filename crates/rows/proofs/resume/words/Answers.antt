@@ -1,0 +1,19 @@
+-- `rows::resume::words` meets its contract: the invariant and its laws are in proofs/Running.antt. Assumes nothing.
+use Rattle.std.proofs.Common.{◌+◌, ◌-◌, ◌<◌, ◌≤◌, length, arith}
+use Rattle.words.proofs.Served.{served-some}
+use Rattle.rows.proofs.Running.{Running, running_none, channel_below, channel-held, sums_same, run_room, run_turned, run_ended}
+use Rattle.rows.proofs.resume.words.Goals as goal
+
+pub sum-sample-requires : goal.sum-sample-requires
+sum-sample-requires c =
+    let room : c.loop-at.at + c.args.width ≤ length c.args.raw.now = run_room _ _ _ _ _ _ _ _ c.requires c.loop-at.invariant c.loop-at-test.true in
+    (c.requires.takes, room)
+
+pub put-requires : goal.put-requires
+put-requires c =
+    let room : c.loop-at.at + c.args.width ≤ length c.args.raw.now = run_room _ _ _ _ _ _ _ _ c.requires c.loop-at.invariant c.loop-at-test.true in
+    (c.requires.takes, omega (arith, room, c.loop-at.invariant.upto.same, c.requires.same))
+
+pub loop-at-preserved : goal.loop-at-preserved
+loop-at-preserved c =
+    sums_same _ _ _ _ _ _ _ _ c.requires c.loop-at.invariant

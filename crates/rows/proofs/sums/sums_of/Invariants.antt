@@ -1,0 +1,14 @@
+-- `rows::sums::sums_of` meets its contract, at every width: what is stored up to `at` are the samples, and the local is the sum so far.
+-- Assumes nothing.
+use Rattle.std.proofs.Common.{◌≡◌, ◌+◌, ◌-◌, ◌/◌, ◌≤◌, length, arith, rules}
+use Rattle.rows.specs.Row.{resumed}
+use Rattle.rows.proofs.Loops.{Upto, upto_none, carried, carried_start, sum_room, next-sum, ended}
+use Rattle.rows.proofs.sums.sums_of.Given as goal
+
+abbrev pub invariant-loop-at : goal.invariant-loop-at
+invariant-loop-at l =
+    Upto (resumed l.raw 1 l.width l.le l.start) l.width l.out_le (length l.raw) l.initial.out l.at l.out
+    × (l.sum ≡ carried l.raw 1 l.width l.le l.start (l.at / l.width))
+
+abbrev pub decreases-loop-at : goal.decreases-loop-at
+decreases-loop-at l = length l.raw - l.at

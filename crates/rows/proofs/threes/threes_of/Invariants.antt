@@ -1,0 +1,19 @@
+-- `rows::threes::threes_of` meets its contract, at every width: what is stored up to `at` are the samples, and each local is its channel's sum so far.
+-- Assumes nothing.
+use Rattle.std.proofs.Common.{◌≡◌, ◌+◌, ◌-◌, ◌*◌, ◌/◌, ◌%◌, ◌≤◌, length, ◌∙◌, arith, rules}
+use native.Mathlib.Nat.{zero-mod, add-mod_right}
+use Rattle.laws.proofs.Groups.{group_room}
+use Rattle.rows.specs.Row.{resumed}
+use Rattle.rows.proofs.Loops.{Upto, upto_none, carried, carried_start, next-sum, ended}
+use Rattle.rows.proofs.threes.threes_of.Given as goal
+
+abbrev pub invariant-loop-at : goal.invariant-loop-at
+invariant-loop-at l =
+    Upto (resumed l.raw 3 l.width l.le l.start) l.width l.out_le (length l.raw) l.initial.out l.at l.out
+    × (l.at % (3 * l.width) ≡ 0)
+    × (l.a ≡ carried l.raw 3 l.width l.le l.start (l.at / l.width))
+    × (l.b ≡ carried l.raw 3 l.width l.le l.start ((l.at + l.width) / l.width))
+    × (l.c ≡ carried l.raw 3 l.width l.le l.start ((l.at + l.width + l.width) / l.width))
+
+abbrev pub decreases-loop-at : goal.decreases-loop-at
+decreases-loop-at l = length l.raw - l.at

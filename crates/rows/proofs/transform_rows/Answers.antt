@@ -1,0 +1,33 @@
+-- `rows::transform_rows` meets its promise: it refuses as the check does, and past it writes the strip. Assumes nothing.
+use Rattle.std.proofs.Common.{List, length, arith, rules}
+use borrow.Author.Tests.{not-false}
+use Rattle.answer.specs.Outcome.{Fault, Sound}
+use Rattle.answer.proofs.Promised.{passed, stopped, refuses, finishes, sound-here}
+use Rattle.words.specs.Word.{Bytes}
+use Rattle.samples.specs.Sample.{strip}
+use Rattle.samples.specs.Promises.{convert_faults}
+use Rattle.samples.proofs.Strips.{good_checked, bytes-words}
+use Rattle.rows.specs.Row.{StripServed}
+use Rattle.rows.proofs.Rows.{strip-served}
+use Rattle.rows.proofs.Leading.{unpredicted}
+use Rattle.rows.proofs.transform_rows.Goals as goal
+
+pub every_row-requires : goal.every_row-requires
+every_row-requires c =
+    let faults : List Fault = let args = c.args in convert_faults args.raw.now (strip args.row_bytes args.channels args.width) args.out.now in
+    let sound : Sound (faults) = passed (faults) c.checked.result c.checked.ensures c.in-Done.is in
+    let served-here : let args = c.args in StripServed args.raw.now (strip args.row_bytes args.channels args.width) args.out.now = strip-served _ _ _ (sound) in
+    served-here
+
+pub returns-else-predict : goal.returns-else-predict
+returns-else-predict c =
+    let bytes : Bytes c.args.raw.now = λ i. omega (arith, c.type_inv.raw i) in
+    let faults : List Fault = let args = c.args in convert_faults args.raw.now (strip args.row_bytes args.channels args.width) args.out.now in
+    let sound : Sound (faults) = passed (faults) c.checked.result c.checked.ensures c.in-Done.is in
+    let served-here : let args = c.args in StripServed args.raw.now (strip args.row_bytes args.channels args.width) args.out.now = strip-served _ _ _ (sound) in
+    let args = c.args in
+    let g = strip args.row_bytes args.channels args.width in
+    let fits = served-here in
+    rw c.if-predict.false
+    (finishes faults tt (length args.raw.now) _ _ _ sound
+    (unpredicted args.raw.now bytes g args.le args.out_le args.forward args.out.now c.reorder.result _ (not-false _ (sound-here fits.sound)) (bytes-words _ g (good_checked _ g fits.sound)) fits.room c.reorder.ensures))

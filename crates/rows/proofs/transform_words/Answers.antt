@@ -1,0 +1,40 @@
+-- `rows::transform_words` meets its contract: words in the other order without prediction, else the row predicted or undone.
+-- Assumes nothing.
+use Rattle.std.proofs.Common.{◌≡◌, ◌≤◌, false, length, refl, ◌∙◌, mul-pos, arith, rules, ltb-false}
+use Rattle.words.specs.Word.{Bytes}
+use Rattle.laws.proofs.Groups.{groups-words}
+use Rattle.laws.proofs.Says.{neither}
+use Rattle.rows.specs.Row.{one_row}
+use Rattle.rows.proofs.Loops.{resumed-none}
+use Rattle.rows.proofs.Rows.{one-good}
+use Rattle.rows.proofs.Leading.{lead_fits, lead_on, lead_all, unpredicted}
+use Rattle.rows.proofs.transform_words.Goals as goal
+
+pub lead-requires : goal.lead-requires
+lead-requires c =
+    lead_fits c.requires
+
+pub steps-requires : goal.steps-requires
+steps-requires c =
+    let bytes : Bytes c.args.raw.now = λ i. omega (arith, c.type_inv.raw i) in
+    let args = c.args in
+    (c.requires.takes, lead_on args.raw.now bytes args.channels args.width args.le args.out_le args.forward args.out.now _ c.requires c.lead.ensures)
+
+pub returns-then-forward-channels : goal.returns-then-forward-channels
+returns-then-forward-channels c =
+    let bytes : Bytes c.args.raw.now = λ i. omega (arith, c.type_inv.raw i) in
+    let args = c.args in
+    rw c.if-predict.true (lead_all args.raw.now bytes args.channels args.width args.le args.out_le args.forward args.out.now _ c.requires c.lead.ensures _ c.steps.ensures)
+
+pub returns-else-forward-channels : goal.returns-else-forward-channels
+returns-else-forward-channels c =
+    let at-most-four : (c.args.forward ≡ false) × (c.args.channels ≤ 4) = let is = neither _ _ c.if-forward-channels.false in (is.0, ltb-false _ _ is.1) in
+    let args = c.args in
+    rw (c.if-predict.true, at-most-four.0) (c.rows.ensures ∙ resumed-none args.raw.now (one_row args.raw.now args.channels args.width) args.le args.out_le args.out.now 4 c.requires.fits.channel)
+
+pub returns-else-predict : goal.returns-else-predict
+returns-else-predict c =
+    let bytes : Bytes c.args.raw.now = λ i. omega (arith, c.type_inv.raw i) in
+    let args = c.args in
+    let words = groups-words (length args.raw.now) args.channels args.width c.requires.fits.groups in
+    rw c.if-predict.false (unpredicted args.raw.now bytes (one_row args.raw.now args.channels args.width) args.le args.out_le args.forward args.out.now c.reorder.result _ c.requires.takes words c.requires.fits.room c.reorder.ensures)

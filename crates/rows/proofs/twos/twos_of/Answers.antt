@@ -1,0 +1,61 @@
+-- `rows::twos::twos_of` meets its contract, at every width: what is stored up to `at` are the samples, and each local is its channel's sum so far.
+-- Assumes nothing.
+use Rattle.std.proofs.Common.{◌≡◌, ◌+◌, ◌-◌, ◌*◌, ◌/◌, ◌%◌, ◌≤◌, length, ◌∙◌, arith, rules}
+use native.Mathlib.Nat.{zero-mod, add-mod_right}
+use Rattle.laws.proofs.Groups.{group_room}
+use Rattle.rows.specs.Row.{resumed}
+use Rattle.rows.proofs.Loops.{Upto, upto_none, carried, carried_start, next-sum, ended}
+use Rattle.rows.proofs.twos.twos_of.Goals as goal
+
+pub loop-at-init : goal.loop-at-init
+loop-at-init c =
+    let wide = c.requires.fits.wide in (
+      upto_none _ _ _ _ _,
+      zero-mod _,
+      carried_start _ 2 _ _ _ 0 _ wide (omega arith) (omega arith),
+      carried_start _ 2 _ _ _ 1 _ wide (omega arith) (omega arith),
+    )
+
+pub sum-a-requires : goal.sum-a-requires
+sum-a-requires c =
+    let room : c.loop-at.at + 2 * c.args.width ≤ length c.args.raw.now = group_room (2 * c.args.width) _ c.loop-at.at c.requires.fits.groups c.loop-at.invariant.1 c.loop-at-test.true in
+    (c.requires.takes, omega (arith, room))
+
+pub sum-b-requires : goal.sum-b-requires
+sum-b-requires c =
+    let room : c.loop-at.at + 2 * c.args.width ≤ length c.args.raw.now = group_room (2 * c.args.width) _ c.loop-at.at c.requires.fits.groups c.loop-at.invariant.1 c.loop-at-test.true in
+    (c.requires.takes, omega (arith, room))
+
+pub put-requires : goal.put-requires
+put-requires c =
+    let room : c.loop-at.at + 2 * c.args.width ≤ length c.args.raw.now = group_room (2 * c.args.width) _ c.loop-at.at c.requires.fits.groups c.loop-at.invariant.1 c.loop-at-test.true in
+    let free : c.loop-at.at + 2 * c.args.width ≤ length c.loop-at.out = omega (arith, room, c.loop-at.invariant.0.same, c.requires.fits.room) in
+    (c.requires.takes, omega (arith, free))
+
+pub put-requires-in-loop-at : goal.put-requires-in-loop-at
+put-requires-in-loop-at c =
+    let room : c.loop-at.at + 2 * c.args.width ≤ length c.args.raw.now = group_room (2 * c.args.width) _ c.loop-at.at c.requires.fits.groups c.loop-at.invariant.1 c.loop-at-test.true in
+    let free : c.loop-at.at + 2 * c.args.width ≤ length c.loop-at.out = omega (arith, room, c.loop-at.invariant.0.same, c.requires.fits.room) in
+    (c.requires.takes, omega (arith, free))
+
+pub loop-at-preserved : goal.loop-at-preserved
+loop-at-preserved c =
+    let room : c.loop-at.at + 2 * c.args.width ≤ length c.args.raw.now = group_room (2 * c.args.width) _ c.loop-at.at c.requires.fits.groups c.loop-at.invariant.1 c.loop-at-test.true in
+    let a-put = c in
+    let b-sum = stored a-put in
+    let a_sum = b-sum.before in
+    let in-loop = a_sum.before in
+    let at = in-loop.before.loop in
+    let fits = (start in-loop).pre.fits in
+    let args = (start in-loop).args in
+    let le = args.le in
+    let from = args.start.now in
+    let w = args.width in
+    let a-next = next-sum le from fits at.inv.0 (omega (arith, room, fits.wide)) at.inv.2 a_sum.sum.ensures a-put.put.ensures (at.at + 2 * w) (omega arith) in
+    let b-next = next-sum le from fits a-next.0 (omega (arith, room, fits.wide)) at.inv.3 b-sum.sum2.ensures c.put-in-loop-at.ensures (at.at + 2 * w + w) (omega arith) in
+    let on : at.at + w + w ≡ at.at + 2 * w = omega arith in (
+      rw on at b-next.0,
+      add-mod_right at.at (2 * w) ∙ at.inv.1,
+      a-next.1,
+      b-next.1,
+    )

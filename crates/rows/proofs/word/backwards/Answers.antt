@@ -1,0 +1,15 @@
+-- `rows::word::backwards` meets its contract: each width's arm has that width's low bytes backwards. Assumes nothing.
+use Rattle.std.proofs.Common.{◌≡◌, ◌∙◌, arith, rules}
+use Rattle.words.proofs.Served.{served-wide, served-narrow}
+use Rattle.words.proofs.Puts.{backwards_rest}
+use Rattle.rows.proofs.word.backwards.Goals as goal
+
+pub returns-else-width-eq4 : goal.returns-else-width-eq4
+returns-else-width-eq4 c =
+    let eight : c.args.width ≡ 8 = served-wide _ c.requires c.if-width-gt3.true c.if-width-eq4.false in
+    rw eight c.backwards8.ensures
+
+pub returns-else-width-eq2 : goal.returns-else-width-eq2
+returns-else-width-eq2 c =
+    let three : c.args.width ≡ 3 = served-narrow _ c.requires c.if-width-gt3.false c.if-width-eq1.false c.if-width-eq2.false in
+    rw three (c.backwards3.ensures ∙ backwards_rest 3 4 c.args.v (omega arith))
