@@ -7,6 +7,4 @@ use Rattle.pixels.proofs.Straight.{straight_held}
 use Rattle.pixels.proofs.straighten.Goals as goal
 
 pub returns : goal.returns
-returns c a alpha e =
-    let args = c.args in
-    straight_held args.u a args.share c.if-full-lt33423360.held (omega arith) alpha e (⊎_elim (λ w. inl (w.0.taken, w.1)) (λ w. inr (omega arith, w.1)) c.if-full-lt33423360.branch)
+returns c a alpha e = ?

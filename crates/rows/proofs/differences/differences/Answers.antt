@@ -36,4 +36,4 @@ loop-at-preserved c =
     c.sub-less.ensures
     ∙ ap (λ (x : ℕ). minus w x c.get-in-loop-at.result) c.get.ensures
     ∙ ap (minus w (word_at args.raw.now at.at w args.le)) c.get-in-loop-at.ensures in
-    (difference_turned args.le c.requires.1.fits at.inv.1 c.loop-at-test.true at.inv.0 _ _ e c.put.ensures, omega arith)
+    (difference_turned args.le c.requires.1.fits at.invariant.1 c.loop-at-test.true at.invariant.0 _ _ e c.put.ensures, omega arith)

@@ -16,4 +16,4 @@ put-requires c =
 
 pub loop-at-preserved : goal.loop-at-preserved
 loop-at-preserved c =
-    sums_same _ _ _ _ _ _ _ _ c.requires c.loop-at.invariant
+    run_turned _ _ _ _ _ _ _ _ c.requires c.loop-at.invariant c.loop-at-test.true _ _ _ c.sum-sample.ensures c.put.ensures c.following-channel.ensures

@@ -18,4 +18,4 @@ pub loop-at-preserved : goal.loop-at-preserved
 loop-at-preserved c =
     let args = c.args in
     let at = c.loop-at in
-    next-sum args.le args.start.now c.requires.fits at.inv.0 c.loop-at-test.true at.inv.1 c.sum-sum.ensures c.put.ensures _ (omega arith)
+    next-sum args.le args.start.now c.requires.fits at.invariant.0 c.loop-at-test.true at.invariant.1 c.sum-sum.ensures c.put.ensures _ (omega arith)

@@ -68,24 +68,18 @@ overflow_add-at c =
 pub loop-at-preserved : goal.loop-at-preserved
 loop-at-preserved c =
     let room : c.loop-at.at + 3 * c.args.width ≤ length c.args.raw.now = group_room (3 * c.args.width) _ c.loop-at.at c.requires.fits.groups c.loop-at.invariant.1 c.loop-at-test.true in
-    let b-put = c in
-    let a-put = stored2 b-put in
-    let c-sum = stored a-put in
-    let b-sum = c-sum.before in
-    let a_sum = b-sum.before in
-    let in-loop = a_sum.before in
-    let at = in-loop.before.loop in
-    let fits = (start in-loop).pre.fits in
-    let args = (start in-loop).args in
+    let at = c.loop-at in
+    let fits = c.requires.fits in
+    let args = c.args in
     let le = args.le in
     let from = args.start.now in
     let w = args.width in
-    let a-next = next-sum le from fits at.inv.0 (omega (arith, room, fits.wide)) at.inv.2 a_sum.sum.ensures a-put.put.ensures (at.at + 3 * w) (omega arith) in
-    let b-next = next-sum le from fits a-next.0 (omega (arith, room, fits.wide)) at.inv.3 b-sum.sum2.ensures b-put.put2.ensures (at.at + 3 * w + w) (omega arith) in
-    let c-next = next-sum le from fits b-next.0 (omega (arith, room, fits.wide)) at.inv.4 c-sum.sum3.ensures c.put-in-loop-at-2.ensures (at.at + 3 * w + w + w) (omega arith) in
+    let a-next = next-sum le from fits at.invariant.0 (omega (arith, room, fits.wide)) at.invariant.2 c.sum-a.ensures c.put.ensures (at.at + 3 * w) (omega arith) in
+    let b-next = next-sum le from fits a-next.0 (omega (arith, room, fits.wide)) at.invariant.3 c.sum-b.ensures c.put-in-loop-at.ensures (at.at + 3 * w + w) (omega arith) in
+    let c-next = next-sum le from fits b-next.0 (omega (arith, room, fits.wide)) at.invariant.4 c.sum-c.ensures c.put-in-loop-at-2.ensures (at.at + 3 * w + w + w) (omega arith) in
     let on : at.at + w + w + w ≡ at.at + 3 * w = omega arith in (
       rw on at c-next.0,
-      add-mod_right at.at (3 * w) ∙ at.inv.1,
+      add-mod_right at.at (3 * w) ∙ at.invariant.1,
       a-next.1,
       b-next.1,
       c-next.1,

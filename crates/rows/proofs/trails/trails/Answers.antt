@@ -27,4 +27,4 @@ loop-at-preserved c =
     let args = c.args in
     let w = args.width in
     let e = c.sum-sample.ensures ∙ ap (plus w (word_at args.raw.now at.at w args.le)) c.get.ensures in
-    (trail_turned args.le c.requires.1.fits at.inv.1 c.loop-at-test.true at.inv.0 _ _ e c.put.ensures, omega arith)
+    (trail_turned args.le c.requires.1.fits at.invariant.1 c.loop-at-test.true at.invariant.0 _ _ e c.put.ensures, omega arith)

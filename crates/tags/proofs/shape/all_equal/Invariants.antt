@@ -1,0 +1,22 @@
+-- `tags::shape::all_equal` meets its contract: each value is held against the first. Assumes nothing.
+use Prim.Native.Nat.{◌-◌, ◌≤◌, ℕ}
+use Rattle.entries.specs.Entries.{value_of}
+use Rattle.entries.specs.declared.Field.{Field}
+use Rattle.laws.proofs.Turns.{every_more}
+use Rattle.laws.specs.Turns.{every}
+use borrow.Author.Rules.{rules}
+use lib.Dec.{eqb}
+use mathlib.Core.Bool.{Bool}
+use mathlib.Core.List.{List}
+use mathlib.Core.Path.{◌≡◌, refl}
+use native.Mathlib.Omega.{arith}
+use Rattle.tags.proofs.shape.all_equal.Given as goal
+
+abbrev same-as-first : List ℕ → Bool → Field → ℕ → Bool
+same-as-first file le bits j = eqb (value_of file le bits j) (value_of file le bits 0)
+
+abbrev pub invariant-loop-j : goal.invariant-loop-j
+invariant-loop-j l = (l.j ≤ l.bits.count) × (l.same ≡ every l.j (same-as-first l.file l.le l.bits))
+
+abbrev pub decreases-loop-j : goal.decreases-loop-j
+decreases-loop-j l = l.bits.count - l.j
