@@ -1,0 +1,25 @@
+-- `directory::one_strip` meets its contract: the number, then the strip's own faults. Assumes nothing.
+use Rattle.answer.proofs.Promised.{finishing, refusing, step-first, step-sound}
+use Rattle.answer.specs.Outcome.{Fault, here, later, next}
+use Rattle.directory.specs.Page.{one_faults}
+use Rattle.entries.specs.Entries.{place}
+use borrow.Author.Rules.{rules}
+use borrow.Author.Tests.{le-leb, lt-leb}
+use lib.Dec.{leb}
+use mathlib.Core.Bool.{false}
+use mathlib.Core.List.{List}
+use mathlib.Core.Path.{◌≡◌}
+use native.Mathlib.Omega.{arith}
+use Rattle.directory.proofs.one_strip.Goals as goal
+
+pub returns-in-Refused : goal.returns-in-Refused
+returns-in-Refused c =
+    let faults : List Fault = one_faults c.args.file.now c.args.s c.args.k in
+    let there : leb c.args.s.offsets.count c.args.k ≡ false = lt-leb c.args.s.offsets.count c.args.k (omega (arith, c.if-n-k.false)) in
+    refusing faults _ (later there (step-first c.check_strip.ensures c.in-Refused.is))
+
+pub returns-in-Done : goal.returns-in-Done
+returns-in-Done c =
+    let faults : List Fault = one_faults c.args.file.now c.args.s c.args.k in
+    let there : leb c.args.s.offsets.count c.args.k ≡ false = lt-leb c.args.s.offsets.count c.args.k (omega (arith, c.if-n-k.false)) in
+    rw (c.place_of-at.ensures, c.length_of-bytes.ensures) (finishing faults _ (next there (step-sound c.check_strip.ensures c.in-Done.is)))

@@ -1,0 +1,29 @@
+-- `directory::place_strips` meets its contract: the strips' faults, then the buffer's. Assumes nothing.
+use Prim.Native.Nat.{◌*◌}
+use Rattle.answer.proofs.Promised.{finishes, first_more, refuses, sound_more, sound_then, step-first, step-sound}
+use Rattle.answer.specs.Outcome.{Fault, Sound, here, next, none}
+use Rattle.answer.specs.Table.{filled}
+use Rattle.directory.specs.Page.{part_number, parts_faults, strips_faults}
+use borrow.Author.Rules.{rules}
+use borrow.Author.Tests.{le-ltb, lt-ltb}
+use lib.ListN.{length}
+use mathlib.Core.List.{List}
+use native.Mathlib.Omega.{arith}
+use Rattle.directory.proofs.place_strips.Goals as goal
+
+pub returns-then-parts-count_of : goal.returns-then-parts-count_of
+returns-then-parts-count_of c =
+    let faults : List Fault = parts_faults c.args.file.now c.args.s c.args.parts.now in
+    let sound : Sound (strips_faults c.args.file.now c.args.s) = step-sound c.check_strips.ensures c.in-Done.is in
+    refuses faults tt _ _ (sound_then sound (here (lt-ltb (length c.args.parts.now) (2 * c.args.s.offsets.count) (omega (arith, c.count_of.ensures, c.if-parts-count_of.true)))))
+
+pub returns-in-Refused : goal.returns-in-Refused
+returns-in-Refused c =
+    let faults : List Fault = parts_faults c.args.file.now c.args.s c.args.parts.now in
+    refuses faults tt _ _ (first_more _ (step-first c.check_strips.ensures c.in-Refused.is))
+
+pub returns-else-parts-count_of : goal.returns-else-parts-count_of
+returns-else-parts-count_of c =
+    let faults : List Fault = parts_faults c.args.file.now c.args.s c.args.parts.now in
+    let sound : Sound (strips_faults c.args.file.now c.args.s) = step-sound c.check_strips.ensures c.in-Done.is in
+    finishes faults tt (2 * c.args.s.offsets.count) (part_number c.args.file.now c.args.s) _ _ (sound_more sound (next (le-ltb (length c.args.parts.now) (2 * c.args.s.offsets.count) (omega (arith, c.count_of.ensures, c.if-parts-count_of.false))) none)) c.fill_parts.ensures

@@ -1,0 +1,18 @@
+-- `directory::strips::fill_parts` meets its contract: two numbers a turn. Assumes nothing.
+use Prim.Native.Nat.{◌*◌, ◌+◌, ◌-◌, ◌≤◌}
+use Rattle.directory.proofs.Filling.{length-number, parts_more, place-number}
+use Rattle.directory.specs.Page.{part_number}
+use Rattle.entries.specs.Entries.{place}
+use Rattle.laws.proofs.Lists.{FilledTo, filled_none}
+use borrow.Author.Rules.{rules}
+use lib.ListN.{length-set}
+use mathlib.Core.Path.{◌∙◌, ◌≡◌, refl, sym}
+use native.Mathlib.Omega.{arith}
+use Rattle.directory.proofs.strips.fill_parts.Goals as goal
+
+pub loop-k-preserved : goal.loop-k-preserved
+loop-k-preserved c =
+    let file = c.args.file.now in
+    let s = c.args.s in
+    let k = c.loop-k.k in
+    (omega arith, (omega (arith, c.loop-k.invariant.1.0), parts_more (part_number file s) _ _ k c.loop-k.at _ _ c.loop-k.invariant.1.1 c.loop-k.invariant.1.0 (omega (arith, c.requires, c.loop-k-test.true)) (c.place_of.ensures ∙ sym (place-number file s k)) (c.length_of.ensures ∙ sym (length-number file s k))))
