@@ -1,0 +1,23 @@
+-- `packet_numbers::piece` meets its promise: numbers that stand for no state are refused, else their parts are lent. Assumes nothing.
+use borrow.Author.Rules.{rules}
+use native.Mathlib.Omega.{arith}
+use mathlib.Core.Path.{◌≡◌, refl, sym, ◌∙◌}
+use mathlib.Core.Bool.{false}
+use lib.ListN.{length, length-set}
+use Rattle.laws.proofs.Says.{clash}
+use Rattle.packet_numbers.specs.Numbers.{strays}
+use Rattle.packet_numbers.proofs.Standing.{kept-long}
+use Rattle.packet_numbers.proofs.Taking.{numbers-refused, numbers_fit, numbers_spread, numbers-done}
+use Rattle.packet_numbers.proofs.piece.Goals as goal
+
+pub returns-in-Refused : goal.returns-in-Refused
+returns-in-Refused c =
+    let kept : strays c.args.s.now ≡ false = sym c.strays.ensures ∙ c.if-strays.false in
+    let told = c.answer-1.given in
+    record { kept = λ e. numbers-refused c.args.s.now kept c.plan_of-plan.ensures c.tail_of-tail.ensures c.lent_piece-answer.ensures told.0.0 told.1; strayed = λ e. clash e kept }
+
+pub returns-in-Bytes : goal.returns-in-Bytes
+returns-in-Bytes c =
+    let kept : strays c.args.s.now ≡ false = sym c.strays.ensures ∙ c.if-strays.false in
+    let told = c.answer-in-Bytes-1.given in
+    record { kept = λ e. numbers-done c.args.s.now kept c.plan_of-plan.ensures c.tail_of-tail.ensures c.lent_piece-answer.ensures told.1 c.word_of.ensures.0 c.word_of.ensures.1; strayed = λ e. clash e kept }
