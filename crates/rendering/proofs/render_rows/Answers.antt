@@ -1,0 +1,33 @@
+-- `rendering::render_rows` meets its contract: the invariant and its laws are in proofs/Picture.antt. Assumes nothing.
+use borrow.Author.Rules.{rules}
+use native.Mathlib.Omega.{arith}
+use Prim.Native.Nat.{◌+◌, ◌-◌, ◌≤◌}
+use Rattle.pixels.specs.Render.{row_bytes}
+use Rattle.rendering.proofs.Picture.{RenderedRows, rendered_none, row_small, rendered_room, row_of, rendered_next, rendered_all}
+use Rattle.rendering.proofs.render_rows.Goals as goal
+
+pub overflow_mul-row_bytes : goal.overflow_mul-row_bytes
+overflow_mul-row_bytes c =
+    let small = row_small c.requires in record { fits = omega (arith, small.0, small.1) }
+
+pub overflow_mul-row_bytes-2 : goal.overflow_mul-row_bytes-2
+overflow_mul-row_bytes-2 c =
+    record { fits = omega (arith, (row_small c.requires).1) }
+
+pub overflow_add-end : goal.overflow_add-end
+overflow_add-end c =
+    let room : c.loop-y.at + row_bytes c.args.l ≤ c.args.l.output_len = rendered_room c.requires c.loop-y.invariant (omega (arith, c.loop-y-test.true)) in
+    omega (arith, room, c.requires.room, c.well_formed)
+
+pub slice_bounds-render_row-end : goal.slice_bounds-render_row-end
+slice_bounds-render_row-end c =
+    let room : c.loop-y.at + row_bytes c.args.l ≤ c.args.l.output_len = rendered_room c.requires c.loop-y.invariant (omega (arith, c.loop-y-test.true)) in
+    omega (arith, room, c.loop-y.invariant.same, c.requires.room)
+
+pub loop-y-preserved : goal.loop-y-preserved
+loop-y-preserved c =
+    rendered_next c.requires c.loop-y.invariant (omega (arith, c.loop-y-test.true)) _ c.render_row.ensures
+
+pub returns : goal.returns
+returns c =
+    rendered_all c.requires c.loop-y.invariant (omega (arith, c.loop-y-test.false))
