@@ -1,0 +1,25 @@
+-- `packets::Packets::start` meets its promise: the strip check's faults, or the state of no bytes. Assumes nothing.
+use borrow.Author.Rules.{rules}
+use mathlib.Core.Path.{◌≡◌, refl}
+use mathlib.Core.List.{[]}
+use Prim.Native.Nat.{◌/◌, ◌%◌}
+use native.Mathlib.Nat.{zero-mod, zero-div}
+use Rattle.answer.proofs.Promised.{passed, stopped}
+use Rattle.samples.specs.Promises.{strip_faults}
+use Rattle.packets.specs.declared.Plan.{Plan}
+use Rattle.packets.specs.State.{geometry, state_at}
+use Rattle.packets.specs.Promises.{plan, nowhere}
+use Rattle.packets.proofs.Bytewise.{tail_none, sums_none}
+use Rattle.packets.proofs.Behind.{sane_sound}
+use Rattle.packets.proofs.Answers.{begun-refused, begun-done}
+use Rattle.packets.proofs.Packets.start.Goals as goal
+
+pub returns-in-Done : goal.returns-in-Done
+unfolding state_at nowhere
+returns-in-Done c =
+    let asked : Plan = let args = c.args in plan args.row_bytes args.channels args.width args.le args.predict args.out_le in
+    let p = asked in
+    let sound = passed (strip_faults 0 (geometry p)) c.check_strip.result c.check_strip.ensures c.in-Done.is in
+    let sane = sane_sound p sound in
+    let place : 0 / p.width % (p.row_bytes / p.width) ≡ 0 = rw (zero-div p.width) (zero-mod (p.row_bytes / p.width)) in
+    begun-done sound refl (rw (c.nothing-state.ensures, tail_none p sane [] 0 (zero-mod p.width), sums_none p sane [] 0 place))

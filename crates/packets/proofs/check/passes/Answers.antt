@@ -1,0 +1,56 @@
+-- `packets::check::passes` meets its contract: the tests are the check's, in its order. Assumes nothing.
+use borrow.Author.Rules.{rules}
+use borrow.Author.Tests.{lt-ltb, le-ltb, not-true, not-false}
+use native.Mathlib.Omega.{arith}
+use mathlib.Core.Path.{◌≡◌, sym, ◌∙◌}
+use mathlib.Core.Bool.{true}
+use Prim.Native.Nat.{◌/◌, ◌%◌}
+use Rattle.answer.specs.Outcome.{Sound}
+use Rattle.answer.proofs.Promised.{passed, stopped, sound-here}
+use Rattle.words.specs.Promises.{served}
+use Rattle.samples.specs.Promises.{strip_faults}
+use Rattle.packets.specs.declared.Plan.{Plan}
+use Rattle.packets.specs.declared.Packets.{Packets}
+use Rattle.packets.specs.State.{geometry, most, consistent}
+use Rattle.packets.specs.Promises.{plan, state}
+use Rattle.packets.proofs.Bytewise.{Sane}
+use Rattle.packets.proofs.Behind.{sane_sound, row-place}
+use Rattle.packets.proofs.Checking.{sound-clear, first-clear, begun-few}
+use Rattle.packets.proofs.check.passes.Goals as goal
+
+pub returns-then-received-gt1073741824 : goal.returns-then-received-gt1073741824
+unfolding consistent
+returns-then-received-gt1073741824 c =
+    let asked : Plan = let args = c.args in plan args.row_bytes args.channels args.width true args.predict true in
+    let given : Packets = let args = c.args in state (asked) args.received args.tail.now args.sums.now in
+    let checked : Sound (strip_faults 0 (geometry (given).plan)) = passed (strip_faults 0 (geometry (given).plan)) c.check_strip.result c.check_strip.ensures c.in-Done.is in
+    sym (rw (sound-clear checked, lt-ltb most _ c.if-received-gt1073741824.true))
+
+pub returns-then-not-tail_right : goal.returns-then-not-tail_right
+unfolding consistent
+returns-then-not-tail_right c =
+    let asked : Plan = let args = c.args in plan args.row_bytes args.channels args.width true args.predict true in
+    let given : Packets = let args = c.args in state (asked) args.received args.tail.now args.sums.now in
+    let checked : Sound (strip_faults 0 (geometry (given).plan)) = passed (strip_faults 0 (geometry (given).plan)) c.check_strip.result c.check_strip.ensures c.in-Done.is in
+    sym (rw (sound-clear checked, le-ltb most _ c.if-received-gt1073741824.false, ← c.past.ensures, ← c.tail_right.ensures, c.if-not-tail_right.true))
+
+pub returns-in-Refused : goal.returns-in-Refused
+unfolding consistent
+returns-in-Refused c =
+    let asked : Plan = let args = c.args in plan args.row_bytes args.channels args.width true args.predict true in
+    let p = asked in
+    sym (rw (first-clear (stopped (strip_faults 0 (geometry p)) c.check_strip.result c.in-Refused.field-0 c.check_strip.ensures c.in-Refused.is)))
+
+pub returns-else-not-tail_right : goal.returns-else-not-tail_right
+unfolding consistent
+returns-else-not-tail_right c =
+    let asked : Plan = let args = c.args in plan args.row_bytes args.channels args.width true args.predict true in
+    let given : Packets = let args = c.args in state (asked) args.received args.tail.now args.sums.now in
+    let checked : Sound (strip_faults 0 (geometry (given).plan)) = passed (strip_faults 0 (geometry (given).plan)) c.check_strip.result c.check_strip.ensures c.in-Done.is in
+    let plan-sane : Sane (given).plan = sane_sound (given).plan (checked) in
+    let st = given in
+    let place : c.whole.result ≡ st.received / st.plan.width % (st.plan.row_bytes / st.plan.width) = c.whole.ensures ∙ row-place st.plan plan-sane st.received in
+    sym
+    (rw
+    (sound-clear checked, le-ltb most _ c.if-received-gt1073741824.false, ← c.past.ensures, ← c.tail_right.ensures, c.if-not-tail_right.false, ← place, ← c.begun_channels-begun.ensures)
+    (sym c.sums_right.ensures))

@@ -1,0 +1,16 @@
+-- `packets::check::tail_right` meets its contract: the answer so far is the test of the bytes so far. Assumes nothing.
+use borrow.Author.Rules.{rules}
+use native.Mathlib.Omega.{arith}
+use mathlib.Core.Path.{◌≡◌, refl}
+use Prim.Native.Nat.{◌-◌, ◌≤◌}
+use Rattle.laws.specs.Turns.{every}
+use Rattle.laws.proofs.Turns.{every_more}
+use Rattle.packets.specs.State.{tail_right}
+use Rattle.packets.proofs.Checking.{tails-all}
+use Rattle.packets.proofs.check.tail_right.Given as goal
+
+abbrev pub invariant-loop-i : goal.invariant-loop-i
+invariant-loop-i l = (l.i ≤ 8) × (l.right ≡ every l.i (tail_right l.tail l.begun))
+
+abbrev pub decreases-loop-i : goal.decreases-loop-i
+decreases-loop-i l = 8 - l.i

@@ -1,0 +1,43 @@
+-- `packets::feed::feed` meets its contract: the word stays unfinished, or it is finished and the rest comes. Assumes nothing.
+use borrow.Author.Rules.{rules}
+use native.Mathlib.Omega.{arith}
+use Prim.Native.Nat.{◌+◌, ◌≤◌}
+use lib.ListN.{length}
+use Rattle.answer.proofs.Filling.{halfway}
+use Rattle.packets.proofs.Wordstart.{served-width}
+use Rattle.packets.proofs.Finish.{fill_inside, done_small, hold_fits, short-fed, done-room, finishes, rest_room, rest_from, all-fed}
+use Rattle.packets.proofs.feed.feed.Goals as goal
+
+pub past-fill-requires : goal.past-fill-requires
+past-fill-requires c =
+    served-width c.requires
+
+pub missing-head-requires : goal.missing-head-requires
+missing-head-requires c =
+    omega (arith, fill_inside c.requires c.past-fill.result c.past-fill.ensures)
+
+pub hold-requires : goal.hold-requires
+hold-requires c =
+    hold_fits c.requires c.past-fill.result c.past-fill.ensures c.missing-head.result c.missing-head.ensures (omega arith)
+
+pub returns-then-bytes-head : goal.returns-then-bytes-head
+returns-then-bytes-head c =
+    short-fed c.requires c.past-fill.result c.past-fill.ensures c.missing-head.result c.missing-head.ensures (omega arith) c.hold.ensures
+
+pub slice_bounds-finish-end-2 : goal.slice_bounds-finish-end-2
+slice_bounds-finish-end-2 c =
+    done-room c.requires c.past-fill.result c.past-fill.ensures c.missing-head.result c.missing-head.ensures (omega arith)
+
+pub finish-requires : goal.finish-requires
+finish-requires c =
+    finishes c.requires c.past-fill.result c.past-fill.ensures c.missing-head.result c.missing-head.ensures (omega arith)
+
+pub from_word-requires : goal.from_word-requires
+from_word-requires c =
+    let enough : c.missing-head.result ≤ length c.args.bytes.now = omega arith in
+    rest_from c.requires c.past-fill.result c.past-fill.ensures c.missing-head.result c.missing-head.ensures enough c.finish.ensures
+
+pub returns : goal.returns
+returns c =
+    let enough : c.missing-head.result ≤ length c.args.bytes.now = omega arith in
+    all-fed c.requires c.past-fill.result c.past-fill.ensures c.missing-head.result c.missing-head.ensures enough c.finish.ensures c.from_word.ensures

@@ -1,0 +1,16 @@
+-- `packets::feed::hold` meets its contract: the bytes so far are stored behind the others. Assumes nothing.
+use borrow.Author.Rules.{rules}
+use native.Mathlib.Omega.{arith}
+use native.Mathlib.Numerals.{add-one}
+use mathlib.Core.Path.{◌≡◌, refl, ap, ◌∙◌}
+use Prim.Native.Nat.{◌+◌, ◌-◌, ◌≤◌, ◌<◌}
+use lib.ListN.{length, get_or}
+use Rattle.answer.specs.Table.{stores}
+use Rattle.answer.proofs.Filling.{length-stores}
+use Rattle.packets.proofs.feed.hold.Given as goal
+
+abbrev pub invariant-loop-i : goal.invariant-loop-i
+invariant-loop-i l = (l.i ≤ length l.bytes) × (l.tail ≡ stores l.initial.tail l.fill l.i (λ j. get_or l.bytes j 0))
+
+abbrev pub decreases-loop-i : goal.decreases-loop-i
+decreases-loop-i l = length l.bytes - l.i

@@ -1,0 +1,15 @@
+-- `packets::feed::whole` meets its contract: each arm divides by its width. Assumes nothing.
+use mathlib.Core.Path.{◌≡◌, sym}
+use native.Mathlib.Nat.{div-one}
+use Rattle.words.proofs.Served.{served-wide, served-narrow}
+use Rattle.packets.proofs.feed.whole.Goals as goal
+
+pub returns-else-width-eq4 : goal.returns-else-width-eq4
+returns-else-width-eq4 c =
+    let eight : c.args.width ≡ 8 = served-wide _ c.requires c.if-width-gt3.true c.if-width-eq4.false in
+    rw eight
+
+pub returns-else-width-eq2 : goal.returns-else-width-eq2
+returns-else-width-eq2 c =
+    let three : c.args.width ≡ 3 = served-narrow _ c.requires c.if-width-gt3.false c.if-width-eq1.false c.if-width-eq2.false in
+    rw three

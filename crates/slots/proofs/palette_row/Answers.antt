@@ -1,0 +1,22 @@
+-- `slots::palette_row` meets its promise: the check's faults, then each column painted. Assumes nothing.
+use borrow.Author.Rules.{rules}
+use Prim.Native.Nat.{◌+◌}
+use mathlib.Core.List.{List}
+use native.Mathlib.Omega.{arith}
+use lib.ListN.{length}
+use Rattle.answer.specs.Outcome.{Fault, Sound}
+use Rattle.answer.proofs.Promised.{refuses, finishes, step-sound, step-first}
+use Rattle.words.specs.Word.{Bytes}
+use Rattle.pixels.proofs.HighFirst.{high-few}
+use Rattle.slots.specs.Rows.{palette_at, palette_faults, PaintFits}
+use Rattle.slots.proofs.Painting.{colours-few, paint_fits, palette_filled}
+use Rattle.slots.proofs.palette_row.Goals as goal
+
+pub returns-in-Done : goal.returns-in-Done
+returns-in-Done c =
+    let faults : List Fault = let args = c.args in palette_faults (length args.file.now) args.map args.slots (length args.raw.now) (length args.out.now) in
+    let sound : Sound (faults) = step-sound {fs = faults} c.check_palette.ensures c.in-Done.is in
+    let args = c.args in
+    let bytes : Bytes args.file.now = λ i. omega (arith, c.type_inv.file i) in
+    finishes faults tt (length args.out.now) (palette_at args.file.now args.map args.slots args.le args.raw.now) args.out.now _ sound
+    (palette_filled args.file.now args.map args.slots args.le args.raw.now args.out.now _ bytes (rw c.high.ensures at c.paint_row.ensures))

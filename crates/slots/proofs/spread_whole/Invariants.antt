@@ -1,0 +1,18 @@
+-- `slots::spread_whole` meets its contract: eight columns for each byte. Assumes nothing.
+use borrow.Author.Rules.{rules}
+use Prim.Native.Nat.{◌+◌, ◌-◌, ◌*◌, ◌/◌, ◌≤◌}
+use mathlib.Core.Path.{◌≡◌, refl, ap, ◌∙◌}
+use native.Mathlib.Omega.{arith}
+use lib.ListN.{length, get_or}
+use Rattle.answer.specs.Table.{filled}
+use Rattle.answer.proofs.Filling.{length-filled}
+use Rattle.pixels.specs.Render.{flipped}
+use Rattle.slots.specs.Rows.{bilevel_at}
+use Rattle.slots.proofs.Spreading.{spread_filled}
+use Rattle.slots.proofs.spread_whole.Given as goal
+
+abbrev pub invariant-loop-i : goal.invariant-loop-i
+invariant-loop-i l = (l.i ≤ length l.initial.out / 8) × (length l.out ≡ length l.initial.out) × (l.out ≡ filled (8 * l.i) (bilevel_at l.white l.raw) l.initial.out)
+
+abbrev pub decreases-loop-i : goal.decreases-loop-i
+decreases-loop-i l = length l.initial.out / 8 - l.i
