@@ -1,0 +1,18 @@
+-- `writing::levels::check_levels` meets its contract: a bilevel picture has h rows of w bytes. Assumes nothing.
+use borrow.Author.Rules.{rules}
+use borrow.Author.Tests.{eq-eqb, ne_eqb}
+use native.Mathlib.Omega.{arith}
+use mathlib.Core.Path.{◌≡◌}
+use Prim.Native.Nat.{◌*◌}
+use Rattle.pixels.proofs.Undo.{bilevel_output}
+use Rattle.writing.proofs.levels.check_levels.Goals as goal
+
+pub two_levels-requires : goal.two_levels-requires
+two_levels-requires c =
+    let rows : let l = c.args.l in l.output_len ≡ l.fields.h * l.fields.w = let pre = c.requires in bilevel_output c.args.l pre.sound pre.bare c.if-l-ne8.false in
+    omega (arith, rows, c.requires.all)
+
+pub returns : goal.returns
+returns c =
+    let rows : let l = c.args.l in l.output_len ≡ l.fields.h * l.fields.w = let pre = c.requires in bilevel_output c.args.l pre.sound pre.bare c.if-l-ne8.false in
+    let l = c.args.l in rw (eq-eqb l.fields.slots 8 c.if-l-ne8.false, rows, ← c.two_levels.ensures) c.fault.ensures

@@ -1,0 +1,14 @@
+-- `writing::levels::two_levels` meets its contract: the invariant and its laws are in proofs/Search.antt. Assumes nothing.
+use borrow.Author.Rules.{rules}
+use borrow.Author.Tests.{not-true, not-false}
+use native.Mathlib.Omega.{arith}
+use native.Mathlib.Nat.{zero-mul}
+use Prim.Native.Nat.{◌-◌, ◌*◌, ◌≤◌, ◌<◌}
+use mathlib.Core.Path.{refl, sym, ◌∙◌}
+use Rattle.writing.proofs.Search.{Passed, byte_inside, level_passed, row-passed, rows-passed, level_missed}
+use Rattle.writing.proofs.levels.two_levels.Goals as goal
+
+pub returns-then-not-is_level : goal.returns-then-not-is_level
+returns-then-not-is_level c =
+    let inside : c.loop-x.at < c.args.h * c.args.w = byte_inside c.loop-x.invariant c.args.h c.rows-test.true c.loop-x-test.true in
+    sym (level_missed _ _ _ inside (sym c.is_level.ensures ∙ c.if-not-is_level.true))

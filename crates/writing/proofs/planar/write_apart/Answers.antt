@@ -1,0 +1,25 @@
+-- `writing::planar::write_apart` meets its contract: the invariant and its laws are in proofs/Planewise.antt. Assumes nothing.
+use borrow.Author.Rules.{rules}
+use native.Mathlib.Omega.{arith}
+use Prim.Native.Nat.{◌-◌, ◌<◌}
+use Rattle.writing.proofs.Planewise.{Planewise, planes-none, plane_room, plane_fits, plane_next, planes_ended}
+use Rattle.writing.proofs.planar.write_apart.Goals as goal
+
+pub overflow_add-end : goal.overflow_add-end
+overflow_add-end c =
+    let more : c.loop-c.c < c.args.l.fields.ch = omega (arith, c.loop-c-test.true) in
+    omega (arith, plane_room c.requires c.loop-c.invariant more)
+
+pub slice_bounds-write_plane-end : goal.slice_bounds-write_plane-end
+slice_bounds-write_plane-end c =
+    let more : c.loop-c.c < c.args.l.fields.ch = omega (arith, c.loop-c-test.true) in
+    omega (arith, plane_room c.requires c.loop-c.invariant more, c.loop-c.invariant.same)
+
+pub loop-c-preserved : goal.loop-c-preserved
+loop-c-preserved c =
+    let more : c.loop-c.c < c.args.l.fields.ch = omega (arith, c.loop-c-test.true) in
+    plane_next c.requires c.loop-c.invariant more _ c.write_plane.ensures
+
+pub returns : goal.returns
+returns c =
+    planes_ended c.requires c.loop-c.invariant (omega (arith, c.loop-c-test.false))

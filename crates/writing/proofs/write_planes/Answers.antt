@@ -1,0 +1,18 @@
+-- `writing::write_planes` meets its promise: the refusals, then the planes. Assumes nothing.
+use borrow.Author.Rules.{rules}
+use Rattle.answer.specs.Outcome.{Sound}
+use Rattle.answer.proofs.Promised.{refuses, finishes, step-sound, step-first}
+use Rattle.pixels.specs.Planes.{write_faults, written}
+use Rattle.writing.proofs.Checks.{write_served}
+use Rattle.writing.proofs.write_planes.Goals as goal
+
+pub write-requires : goal.write-requires
+write-requires c =
+    let sound : let args = c.args in Sound (write_faults args.l args.picture.now args.planes.now) = step-sound c.check_write.ensures c.in-Done.is in
+    let args = c.args in write_served args.l args.picture.now args.planes.now sound
+
+pub returns-in-Done : goal.returns-in-Done
+returns-in-Done c =
+    let sound : let args = c.args in Sound (write_faults args.l args.picture.now args.planes.now) = step-sound c.check_write.ensures c.in-Done.is in
+    let args = c.args in
+    finishes (write_faults args.l args.picture.now args.planes.now) tt args.l.scratch_len (written args.l args.picture.now) _ _ sound c.write.ensures
