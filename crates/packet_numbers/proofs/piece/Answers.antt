@@ -13,11 +13,9 @@ use Rattle.packet_numbers.proofs.piece.Goals as goal
 pub returns-in-Refused : goal.returns-in-Refused
 returns-in-Refused c =
     let kept : strays c.args.s.now ≡ false = sym c.strays.ensures ∙ c.if-strays.false in
-    let told = c.answer-1.given in
-    record { kept = λ e. numbers-refused c.args.s.now kept c.plan_of-plan.ensures c.tail_of-tail.ensures c.lent_piece-answer.ensures told.0.0 told.1; strayed = λ e. clash e kept }
+    record { kept = λ e. numbers-refused c.args.s.now kept c.plan_of-plan.ensures c.tail_of-tail.ensures c.lent_piece-answer.ensures c.in-Refused.kind c.in-Refused.is; strayed = λ e. clash e kept }
 
 pub returns-in-Bytes : goal.returns-in-Bytes
 returns-in-Bytes c =
     let kept : strays c.args.s.now ≡ false = sym c.strays.ensures ∙ c.if-strays.false in
-    let told = c.answer-in-Bytes-1.given in
-    record { kept = λ e. numbers-done c.args.s.now kept c.plan_of-plan.ensures c.tail_of-tail.ensures c.lent_piece-answer.ensures told.1 c.word_of.ensures.0 c.word_of.ensures.1; strayed = λ e. clash e kept }
+    record { kept = λ e. numbers-done c.args.s.now kept c.plan_of-plan.ensures c.tail_of-tail.ensures c.lent_piece-answer.ensures c.in-Bytes.is c.word_of.ensures.0 c.word_of.ensures.1; strayed = λ e. clash e kept }
