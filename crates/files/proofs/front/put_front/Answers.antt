@@ -1,0 +1,15 @@
+-- `files::front::put_front` meets its contract: the directory, and the values outside it, one list behind the other. Assumes nothing.
+use borrow.Author.Rules.{rules}
+use native.Mathlib.Omega.{arith}
+use mathlib.Core.Path.{refl}
+use Rattle.layout.proofs.Accepted.{up_to_eight}
+use Rattle.files.proofs.Holding.{wrote_on}
+use Rattle.files.proofs.Sizes.{fields_accepted}
+use Rattle.files.proofs.Writing.{laid, wrote-same, length-wrote}
+use Rattle.files.proofs.front.put_front.Goals as goal
+
+pub returns : goal.returns
+returns c =
+    let planned = c.requires in
+    let k = laid planned in
+    wrote-same refl (omega arith) (wrote_on (wrote_on (wrote_on (wrote_on c.put_directory.ensures (omega arith) c.put_bits.ensures) (omega arith) c.put_strips.ensures) (omega arith) c.put_strips-2.ensures) (omega arith) c.put_resolutions.ensures)
