@@ -1,0 +1,33 @@
+-- `hamrisk_file_length` meets its contract: a layout that is refused is refused by `file_length` too, and the record that is handed on is the
+-- completed one, so that what is promised of its length is the call's promise. Assumes nothing.
+use borrow.Author.Rules.{rules}
+use mathlib.Core.Path.{refl, ◌∙◌}
+use Rattle.layout.specs.declared.RasterLayout.{RasterLayout}
+use Rattle.files.specs.declared.Written.{Written}
+use Rattle.files.specs.declared.Written.TheVariants as WrittenIs
+use Rattle.files.specs.File.{Measured}
+use Rattle.capi.specs.OnLayouts.{fields_of}
+use Rattle.capi.proofs.Telling.{lent_as}
+use Rattle.capi.proofs.OnLayouts.{measure_refused, handed_on, flag_refused, flag_never_done}
+use Rattle.capi.proofs.layouts.hamrisk_file_length.Goals as goal
+
+pub returns-in-Refused : goal.returns-in-Refused
+returns-in-Refused c =
+    let a = c.args in
+    record {
+      served = λ e. record {
+        answer = WrittenIs.Refused c.in-Refused.kind;
+        allowed = measure_refused (fields_of a.layout.now) (c.asked.ensures.served e) c.in-Refused.is a.rows_per_strip;
+        number_is = c.number.ensures;
+        value-is = refl;
+      };
+      unserved = λ e. (c.number.ensures ∙ flag_refused c.asked.ensures e c.in-Refused.is, refl);
+    }
+
+pub returns-in-Done : goal.returns-in-Done
+returns-in-Done c =
+    let a = c.args in
+    record {
+      served = λ e. lent_as c.length_of.ensures (handed_on (fields_of a.layout.now) (c.asked.ensures.served e) (λ (l : RasterLayout) (w : Written). Measured l a.rows_per_strip w) c.file_length.result c.in-Done.is c.file_length.ensures);
+      unserved = λ e. flag_never_done c.asked.ensures e c.in-Done.is;
+    }
