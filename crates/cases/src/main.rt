@@ -11,6 +11,8 @@ mod text;
 mod transport_cases;
 mod word_cases;
 
+use std::io;
+use std::io::Read;
 use tally::Tally;
 
 fn word_call(call: &[u8], line: &[u8]) -> bool {
@@ -103,27 +105,27 @@ fn is_case(line: &[u8]) -> bool {
     line[0] != b'#'
 }
 
-fn run(t: Tally, line: &[u8]) -> Tally {
+fn run(rt: &impl Print, t: Tally, line: &[u8]) -> io::Result<Tally> {
     if is_case(line) {
-        return t.saw(line, holds(line));
+        return t.saw(rt, line, holds(line));
     }
-    t
+    Ok(t)
 }
 
-fn run_all(s: &[u8]) -> Tally {
+fn run_all(rt: &impl Print, s: &[u8]) -> io::Result<Tally> {
     let mut t = Tally::new();
     let mut at: usize = 0;
     while at < s.len() {
         let end = text::find(s, at, b'\n', true);
-        t = run(t, &s[at..end]);
+        t = run(rt, t, &s[at..end])?;
         at = end + 1;
     }
-    t
+    Ok(t)
 }
 
-fn main() {
-    let mut space = io::large_buffer();
-    let n = io::read_full(libc::STDIN_FILENO, &mut space);
-    let t = run_all(&space[..n]);
-    t.print();
+fn main(rt: HostRuntime) -> io::Result<()> {
+    let mut text = Vec::new(rt.alloc());
+    rt.reader().read_to_end(&mut text)?;
+    let t = run_all(&rt, &text)?;
+    t.print(&rt)
 }

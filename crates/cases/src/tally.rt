@@ -1,4 +1,4 @@
-use libc::STDOUT_FILENO;
+use std::io;
 
 // How many cases ran, and how many of them differed.
 #[derive(Clone, Copy)]
@@ -13,27 +13,24 @@ impl Tally {
     }
 
     // One case more, which is printed where it did not hold.
-    pub(crate) fn saw(self, case: &[u8], held: bool) -> Self {
+    pub(crate) fn saw(self, rt: &impl Print, case: &[u8], held: bool) -> io::Result<Self> {
         let run = std::num::wrapping_add_u64(self.run, 1);
         if held {
-            return Tally {
+            return Ok(Tally {
                 run,
                 differ: self.differ,
-            };
+            });
         }
-        io::write_all(STDOUT_FILENO, b"differs: ");
-        io::write_all(STDOUT_FILENO, case);
-        io::write_all(STDOUT_FILENO, b"\n");
-        Tally {
+        rt.write_all(b"differs: ")?;
+        rt.write_all(case)?;
+        rt.write_all(b"\n")?;
+        Ok(Tally {
             run,
             differ: std::num::wrapping_add_u64(self.differ, 1),
-        }
+        })
     }
 
-    pub(crate) fn print(self) {
-        io::print_decimal(STDOUT_FILENO, self.run);
-        io::write_all(STDOUT_FILENO, b" cases, ");
-        io::print_decimal(STDOUT_FILENO, self.differ);
-        io::write_all(STDOUT_FILENO, b" differ\n");
+    pub(crate) fn print(self, rt: &impl Print) -> io::Result<()> {
+        println!(rt; "{} cases, {} differ", self.run, self.differ)
     }
 }

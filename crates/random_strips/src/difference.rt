@@ -1,51 +1,53 @@
 // How a difference is printed.
 use crate::calls::*;
 use crate::whole::*;
-use libc::STDOUT_FILENO;
+use std::io;
 
-pub(crate) fn say(text: &[u8]) {
-    io::write_all(STDOUT_FILENO, text);
+fn say(rt: &impl Print, text: &[u8]) -> io::Result<()> {
+    rt.write_all(text)
 }
 
-pub(crate) fn say_number(name: &[u8], v: usize) {
-    say(name);
-    io::print_decimal(STDOUT_FILENO, v as u64);
+fn say_number(rt: &impl Print, name: &[u8], v: usize) -> io::Result<()> {
+    say(rt, name)?;
+    rt.print(v)
 }
 
-fn say_after_space(v: usize) {
-    say_number(b" ", v);
+fn say_after_space(rt: &impl Print, v: usize) -> io::Result<()> {
+    say_number(rt, b" ", v)
 }
 
 // Bytes as decimal numbers, on a line.
-fn say_bytes(s: &[u8]) {
+fn say_bytes(rt: &impl Print, s: &[u8]) -> io::Result<()> {
     let n = s.len();
     let mut i: usize = 0;
     while i < n {
-        say_after_space(get(s, i));
+        say_after_space(rt, get(s, i))?;
         i += 1;
     }
-    say(b"\n");
+    say(rt, b"\n")
 }
 
 // Name i of a table, 16 letters long.
-fn say_name(names: &[u8], i: usize) {
-    say(part(names, times(i, 16), 16));
+fn say_name(rt: &impl Print, names: &[u8], i: usize) -> io::Result<()> {
+    say(rt, part(names, times(i, 16), 16))
 }
 
-fn say_call(call: usize) {
+fn say_call(rt: &impl Print, call: usize) -> io::Result<()> {
     say_name(
+        rt,
         b"convert         forward         reorder         swap_components \
           commit_uninit   reverse_bits    marks           check_strip     \
           read_word       load            byte_place      check_layout    \
           check_record    index           render          write_planes    ",
         call,
-    );
+    )
 }
 
 // Number i of a call: after the names of a picture's numbers stand those that a strip has in their places.
-fn say_numbered(call: usize, i: usize, v: usize) {
+fn say_numbered(rt: &impl Print, call: usize, i: usize, v: usize) -> io::Result<()> {
     let strip = !is_picture(call) && i < FILE;
     say_name(
+        rt,
         b"palette         separate        le              white           \
           bytes           slots           alpha           ch              \
           w               h               map             encoded_width   \
@@ -55,36 +57,43 @@ fn say_numbered(call: usize, i: usize, v: usize) {
           out le          wide            width           channels        \
           row bytes       ",
         either(strip, plus(i, 11), i),
-    );
-    say_number(b" ", v);
-    say(b"\n");
+    )?;
+    say_number(rt, b" ", v)?;
+    say(rt, b"\n")
 }
 
-fn say_numbers(call: usize, p: &[usize]) {
+fn say_numbers(rt: &impl Print, call: usize, p: &[usize]) -> io::Result<()> {
     let mut i: usize = either(is_picture(call), PALETTE, LE);
     while i < NUMBERS {
-        say_numbered(call, i, at(p, i));
+        say_numbered(rt, call, i, at(p, i))?;
         i += 1;
     }
+    Ok(())
 }
 
 // What a call was given.
-pub(crate) fn say_input(t: usize, p: &[usize], input: &[u8], file: &[u8]) {
+pub(crate) fn say_input(
+    rt: &impl Print,
+    t: usize,
+    p: &[usize],
+    input: &[u8],
+    file: &[u8],
+) -> io::Result<()> {
     let call = remainder(t, CALLS);
-    say_call(call);
-    say_number(b" differs in trial ", t);
-    say(b"\n");
-    say_numbers(call, p);
-    say(b"input");
-    say_bytes(input);
-    say(b"file part");
-    say_bytes(file);
+    say_call(rt, call)?;
+    say_number(rt, b" differs in trial ", t)?;
+    say(rt, b"\n")?;
+    say_numbers(rt, call, p)?;
+    say(rt, b"input")?;
+    say_bytes(rt, input)?;
+    say(rt, b"file part")?;
+    say_bytes(rt, file)
 }
 
 // What it answered, and the buffer lent to it, with what comes after.
-pub(crate) fn say_answer(who: &[u8], a: Answer, out: &[u8]) {
-    say_number(who, a.number);
-    say_number(b", value ", a.value);
-    say(b", bytes");
-    say_bytes(out);
+pub(crate) fn say_answer(rt: &impl Print, who: &[u8], a: Answer, out: &[u8]) -> io::Result<()> {
+    say_number(rt, who, a.number)?;
+    say_number(rt, b", value ", a.value)?;
+    say(rt, b", bytes")?;
+    say_bytes(rt, out)
 }

@@ -16,13 +16,20 @@ mod strip_reading;
 mod whole;
 
 use calls::*;
-use difference::{say, say_number};
+use std::io;
 use whole::*;
 
 const TRIALS: usize = 320000;
 
 // The library and the reading on one input; the first difference is printed. Answers how many there are so far.
-fn compare(t: usize, p: &[usize], input: &[u8], file: &[u8], differ: usize) -> usize {
+fn compare(
+    rt: &impl Print,
+    t: usize,
+    p: &[usize],
+    input: &[u8],
+    file: &[u8],
+    differ: usize,
+) -> io::Result<usize> {
     let call = remainder(t, CALLS);
     let mut expected = [170u8; LONGEST];
     let right = reading::answer(call, p, input, file, &mut expected);
@@ -32,15 +39,15 @@ fn compare(t: usize, p: &[usize], input: &[u8], file: &[u8], differ: usize) -> u
         && right.value == got.value
         && check::same(&out, &expected);
     if !held && differ == 0 {
-        difference::say_input(t, p, input, file);
-        difference::say_answer(b"expected: number ", right, &expected);
-        difference::say_answer(b"got: number ", got, &out);
+        difference::say_input(rt, t, p, input, file)?;
+        difference::say_answer(rt, b"expected: number ", right, &expected)?;
+        difference::say_answer(rt, b"got: number ", got, &out)?;
     }
-    plus(differ, either(held, 0, 1))
+    Ok(plus(differ, either(held, 0, 1)))
 }
 
 // A trial whose numbers are chosen.
-fn with_bytes(t: usize, p: &[usize], differ: usize) -> usize {
+fn with_bytes(rt: &impl Print, t: usize, p: &[usize], differ: usize) -> io::Result<usize> {
     let mut space = [0u8; LONGEST];
     inputs::fill_input(
         remainder(t, CALLS),
@@ -51,6 +58,7 @@ fn with_bytes(t: usize, p: &[usize], differ: usize) -> usize {
     let mut file = [0u8; MOST_FILE];
     inputs::fill_file(t, p, &mut file);
     compare(
+        rt,
         t,
         p,
         front(&space, at(p, LENGTH)),
@@ -60,30 +68,29 @@ fn with_bytes(t: usize, p: &[usize], differ: usize) -> usize {
 }
 
 // Trial t: the calls take turns.
-fn trial(t: usize, differ: usize) -> usize {
+fn trial(rt: &impl Print, t: usize, differ: usize) -> io::Result<usize> {
     let mut p = [0usize; NUMBERS];
     let call = remainder(t, CALLS);
     inputs::choose(call, t, &mut p);
     inputs::spoil_derived(call, t, &mut p);
-    with_bytes(t, &p, differ)
+    with_bytes(rt, t, &p, differ)
 }
 
 // How many trials differ.
-fn run(trials: usize) -> usize {
+fn run(rt: &impl Print, trials: usize) -> io::Result<usize> {
     let mut differ: usize = 0;
     let mut t: usize = 0;
     while t < trials {
-        differ = trial(t, differ);
+        differ = trial(rt, t, differ)?;
         t += 1;
     }
-    differ
+    Ok(differ)
 }
 
-fn main() {
-    let differ = run(TRIALS);
-    say_number(b"seed ", rng::SEED);
-    say_number(b": ", CALLS);
-    say_number(b" calls, ", TRIALS);
-    say_number(b" comparisons, ", differ);
-    say(b" differ\n");
+fn main(rt: HostRuntime) -> io::Result<()> {
+    let differ = run(&rt, TRIALS)?;
+    println!(rt;
+        "seed {}: {CALLS} calls, {TRIALS} comparisons, {differ} differ",
+        rng::SEED
+    )
 }
