@@ -1,14 +1,14 @@
 -- From one tag of a directory to the next, and what was read of all. Assumes nothing.
 use Prim.Native.Nat.{◌<◌, ℕ}
 use Rattle.answer.proofs.Promised.{sound_back, sound-front, sound-here, sound_rest}
-use Rattle.answer.specs.Outcome.{Sound, Step, none}
+use Rattle.answer.specs.Outcome.{Sound, Step}
 use Rattle.answer.specs.declared.Done.{Done}
 use Rattle.entries.proofs.Seeking.{field_next, from_field}
 use Rattle.entries.specs.Entries.{field_faults, field_from, field_of}
 use Rattle.entries.specs.Parts.{From, Room}
 use Rattle.entries.specs.declared.Directory.{Directory}
 use Rattle.entries.specs.declared.Field.{Field}
-use Rattle.tags.specs.Tags.{depth, depth_of, extras_faults, extras_of, later_faults, planar_faults, said_faults, samples_faults, shape_faults, shape_of, split_faults, split_of, strips_of, tags_by, tags_of}
+use Rattle.tags.specs.Tags.{depth_of, extras_faults, extras_of, later_faults, planar_faults, said_faults, samples_faults, shape_faults, shape_of, split_faults, split_of, strips_of, tags_by, tags_of}
 use Rattle.tags.specs.declared.Tags.{Tags}
 use Rattle.tags.specs.declared.extras.Extras.{Extras}
 use Rattle.tags.specs.declared.shape.Shape.{Shape}

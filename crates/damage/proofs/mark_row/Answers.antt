@@ -1,9 +1,7 @@
 -- `damage::mark_row` meets its contract: the marks filled in from where the damage begins (proofs/Begins.antt), or each sample's own, carried
 -- onward (proofs/MarkedRows.antt). Assumes nothing.
-use borrow.Author.Rules.{rules}
-use native.Mathlib.Omega.{arith}
 use Rattle.words.proofs.Served.{served-some}
-use Rattle.damage.proofs.Begins.{begins-inside, row_words, begun-marked}
+use Rattle.damage.proofs.Begins.{row_words, begun-marked}
 use Rattle.damage.proofs.MarkedRows.{own_bits, onward_bits, row-marked}
 use Rattle.damage.proofs.mark_row.Goals as goal
 

@@ -1,10 +1,8 @@
 -- `damage::mark_rows` meets its contract: the invariant and its laws are in proofs/MarkedRows.antt. Assumes nothing.
-use borrow.Author.Rules.{rules}
-use native.Mathlib.Omega.{arith}
-use Prim.Native.Nat.{◌+◌, ◌-◌, ◌/◌, ◌≤◌}
+use Prim.Native.Nat.{◌-◌}
 use lib.ListN.{length}
 use Rattle.samples.specs.Sample.{strip}
-use Rattle.damage.proofs.MarkedRows.{MarkedRows, marked-rows-none, strip-wide, row-some, row_room, marks-room, row_fits, row_turned, count_room, rows_ended}
+use Rattle.damage.proofs.MarkedRows.{MarkedRows}
 use Rattle.damage.proofs.mark_rows.Given as goal
 
 abbrev pub invariant-loop-at : goal.invariant-loop-at

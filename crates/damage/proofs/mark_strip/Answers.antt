@@ -1,7 +1,5 @@
 -- `damage::mark_strip` meets its contract: row by row with prediction, each sample's own mark without. Assumes nothing.
-use borrow.Author.Rules.{rules}
-use native.Mathlib.Omega.{arith}
-use Rattle.damage.proofs.MarkedRows.{strip_rows_lem, strip-takes, marks_bits, own_marked}
+use Rattle.damage.proofs.MarkedRows.{marks_bits, own_marked}
 use Rattle.damage.proofs.mark_strip.Goals as goal
 
 pub total-requires : goal.total-requires

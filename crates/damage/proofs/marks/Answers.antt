@@ -1,5 +1,4 @@
 -- `damage::marks` meets its promise: the strip check's faults first, then the room; then the marks, which are exact. Assumes nothing.
-use borrow.Author.Rules.{rules}
 use borrow.Author.Tests.{lt-ltb, le-ltb}
 use native.Mathlib.Omega.{arith}
 use mathlib.Core.List.{List}
@@ -9,7 +8,6 @@ use Rattle.answer.specs.Outcome.{here, next, none, Sound}
 use Rattle.answer.proofs.Promised.{passed, stopped, refuses, first_more, sound_then, sound_more}
 use Rattle.samples.specs.Sample.{Strip, strip}
 use Rattle.samples.specs.Promises.{strip_faults}
-use Rattle.samples.proofs.Strips.{good_checked}
 use Rattle.damage.specs.Promises.{samples_of, mark_faults}
 use Rattle.damage.proofs.Promised.{front_fits, exactly, marks-done}
 use Rattle.damage.proofs.marks.Goals as goal

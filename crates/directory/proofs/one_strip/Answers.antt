@@ -1,10 +1,8 @@
 -- `directory::one_strip` meets its contract: the number, then the strip's own faults. Assumes nothing.
 use Rattle.answer.proofs.Promised.{finishing, refusing, step-first, step-sound}
-use Rattle.answer.specs.Outcome.{Fault, here, later, next}
+use Rattle.answer.specs.Outcome.{Fault, later, next}
 use Rattle.directory.specs.Page.{one_faults}
-use Rattle.entries.specs.Entries.{place}
-use borrow.Author.Rules.{rules}
-use borrow.Author.Tests.{le-leb, lt-leb}
+use borrow.Author.Tests.{lt-leb}
 use lib.Dec.{leb}
 use mathlib.Core.Bool.{false}
 use mathlib.Core.List.{List}

@@ -2,9 +2,7 @@
 use Prim.Native.Nat.{◌*◌}
 use Rattle.answer.proofs.Promised.{finishes, first_more, refuses, sound_more, sound_then, step-first, step-sound}
 use Rattle.answer.specs.Outcome.{Fault, Sound, here, next, none}
-use Rattle.answer.specs.Table.{filled}
 use Rattle.directory.specs.Page.{part_number, parts_faults, strips_faults}
-use borrow.Author.Rules.{rules}
 use borrow.Author.Tests.{le-ltb, lt-ltb}
 use lib.ListN.{length}
 use mathlib.Core.List.{List}

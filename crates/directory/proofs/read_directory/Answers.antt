@@ -1,6 +1,5 @@
 -- `directory::read_directory` meets its contract: past the page's faults its strips'. Assumes nothing.
 use Rattle.directory.proofs.Calls.{all-strips, page_refused}
-use borrow.Author.Rules.{rules}
 use Rattle.directory.proofs.read_directory.Goals as goal
 
 pub returns-in-Refused : goal.returns-in-Refused

@@ -1,6 +1,5 @@
 -- `directory::read_strips` meets its contract: the first strip that has a fault decides. Assumes nothing.
 use Rattle.answer.proofs.Promised.{finishing, refusing, step-first, step-sound}
-use borrow.Author.Rules.{rules}
 use Rattle.directory.proofs.read_strips.Goals as goal
 
 pub returns-in-Refused : goal.returns-in-Refused

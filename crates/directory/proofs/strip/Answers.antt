@@ -1,10 +1,7 @@
 -- `directory::strip` meets its contract: the part that strip_place says. Assumes nothing.
-use Prim.Native.Nat.{◌+◌, ◌-◌, ◌≤◌}
-use Rattle.directory.proofs.Calls.{a_part, inside, no_part}
-use Rattle.entries.specs.Entries.{place}
-use borrow.Author.Rules.{rules}
+use Prim.Native.Nat.{◌+◌, ◌≤◌}
+use Rattle.directory.proofs.Calls.{inside}
 use lib.ListN.{length}
-use mathlib.Core.Path.{◌≡◌}
 use native.Mathlib.Omega.{arith}
 use Rattle.directory.proofs.strip.Goals as goal
 

@@ -1,6 +1,5 @@
 -- `directory::strip_place` meets its contract: past the page's faults the strip's. Assumes nothing.
 use Rattle.directory.proofs.Calls.{one_place, page_refused}
-use borrow.Author.Rules.{rules}
 use Rattle.directory.proofs.strip_place.Goals as goal
 
 pub returns-in-Refused : goal.returns-in-Refused

@@ -1,7 +1,5 @@
 -- `directory::strip_places` meets its contract: past the page's faults its strips', then the buffer's. Assumes nothing.
-use Rattle.answer.specs.Table.{filled}
 use Rattle.directory.proofs.Calls.{all_places, parts_refused}
-use borrow.Author.Rules.{rules}
 use Rattle.directory.proofs.strip_places.Goals as goal
 
 pub returns-in-Refused : goal.returns-in-Refused

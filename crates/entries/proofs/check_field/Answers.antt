@@ -1,7 +1,5 @@
 -- `entries::check_field` meets its contract: missing, type, count, room, in this order. Assumes nothing.
-use Rattle.answer.proofs.Promised.{kind}
-use Rattle.entries.specs.Entries.{field_faults, missing}
-use borrow.Author.Rules.{rules}
+use Rattle.entries.specs.Entries.{field_faults}
 use Rattle.entries.proofs.check_field.Goals as goal
 
 pub returns : goal.returns

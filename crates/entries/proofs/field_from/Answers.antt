@@ -1,9 +1,6 @@
 -- `entries::field_from` meets its contract: the entry at which the search ended, or the default. Assumes nothing.
-use Rattle.answer.specs.Outcome.{none}
-use Rattle.entries.specs.Entries.{directory_end, field_from, short}
-use Rattle.laws.proofs.Says.{both, up}
-use borrow.Author.Rules.{rules}
-use borrow.Author.Tests.{le-ltb, lt-ltb, ltb-true}
+use Rattle.entries.specs.Entries.{directory_end, field_from}
+use borrow.Author.Tests.{le-ltb, lt-ltb}
 use lib.Dec.{ltb}
 use lib.ListN.{length}
 use mathlib.Core.Bool.{false}

@@ -4,7 +4,6 @@ use Rattle.answer.proofs.Promised.{first_more, refusing, sound-here, sound_rest,
 use Rattle.answer.specs.Outcome.{Sound}
 use Rattle.entries.specs.Entries.{header_faults, little, on_the_way, open_faults}
 use Rattle.laws.specs.Turns.{faults_below}
-use borrow.Author.Rules.{rules}
 use borrow.Author.Tests.{ltb-false}
 use lib.ListN.{length}
 use mathlib.Core.List.{List}

@@ -1,9 +1,7 @@
 -- `entries::seek` meets its contract: lower tags are passed over. Assumes nothing.
-use Prim.Native.Nat.{◌-◌}
 use Rattle.entries.proofs.Seeking.{seek-on, seek_over}
-use Rattle.entries.specs.Entries.{entry_from, seek, tag_at}
-use borrow.Author.Rules.{rules}
-use mathlib.Core.Path.{◌∙◌, ◌≡◌, refl, sym}
+use Rattle.entries.specs.Entries.{entry_from, tag_at}
+use mathlib.Core.Path.{◌∙◌, sym}
 use native.Mathlib.Omega.{arith}
 use Rattle.entries.proofs.seek.Goals as goal
 

@@ -1,6 +1,5 @@
 -- `entries::value` meets its contract: a SHORT or a LONG. Assumes nothing.
 use Rattle.entries.specs.Entries.{value_of}
-use borrow.Author.Rules.{rules}
 use borrow.Author.Tests.{eq-eqb, ne_eqb}
 use Rattle.entries.proofs.value.Goals as goal
 

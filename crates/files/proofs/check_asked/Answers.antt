@@ -1,5 +1,4 @@
 -- `files::check_asked` meets its contract: the record's faults, then the kind's, then that of the rows. Assumes nothing.
-use borrow.Author.Rules.{rules}
 use Rattle.layout.specs.Layout.{record_faults}
 use Rattle.files.proofs.check_asked.Goals as goal
 

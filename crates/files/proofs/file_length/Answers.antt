@@ -1,5 +1,4 @@
 -- `files::file_length` meets its promise: it refuses as the check does, and past it answers the plan's length. Assumes nothing.
-use borrow.Author.Rules.{rules}
 use mathlib.Core.Path.{ap, ◌∙◌}
 use Rattle.answer.specs.Outcome.{done}
 use Rattle.answer.proofs.Promised.{finishing, refusing, step-first, step-sound}

@@ -1,7 +1,6 @@
 -- `files::put_file` meets its contract: the front, then the planes behind it. Assumes nothing.
-use borrow.Author.Rules.{rules}
 use native.Mathlib.Omega.{arith}
-use Rattle.files.proofs.Filing.{ends, mid_room, file_put}
+use Rattle.files.proofs.Filing.{ends, file_put}
 use Rattle.files.proofs.put_file.Goals as goal
 
 pub slice_bounds-commit_uninit-count-2 : goal.slice_bounds-commit_uninit-count-2

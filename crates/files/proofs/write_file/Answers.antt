@@ -1,5 +1,4 @@
 -- `files::write_file` meets its promise: it refuses as the check does, then for planes or room, and past that writes the file. Assumes nothing.
-use borrow.Author.Rules.{rules}
 use borrow.Author.Tests.{lt-ltb, le-ltb}
 use native.Mathlib.Omega.{arith}
 use Prim.Native.Nat.{◌≤◌}

@@ -1,5 +1,4 @@
 -- `layout::check_fields` meets its contract: the three steps' faults, one list after another. Assumes nothing.
-use borrow.Author.Rules.{rules}
 use mathlib.Core.List.{◌++◌}
 use Rattle.answer.specs.Outcome.{Step}
 use Rattle.answer.proofs.Promised.{sound-front, step-sound, step-refused, step-on}

@@ -1,5 +1,4 @@
 -- `layout::check_layout` meets its contract: the steps' refusal, or the record. Assumes nothing.
-use borrow.Author.Rules.{rules}
 use mathlib.Core.Path.{ap, ◌∙◌}
 use Rattle.answer.specs.Outcome.{done}
 use Rattle.answer.proofs.Promised.{refusing, finishing, step-sound, step-first}

@@ -1,10 +1,6 @@
 -- `layout::check_record` meets its contract: the steps' refusal, then the comparison. Assumes nothing.
-use borrow.Author.Rules.{rules}
 use mathlib.Core.Path.{◌≡◌, ap, ◌∙◌}
-use mathlib.Core.Bool.{not}
-use mathlib.Core.List.{[], ◌∷◌}
-use Rattle.answer.specs.Outcome.{invalid}
-use Rattle.answer.proofs.Promised.{step-sound, step-refused, step-on}
+use Rattle.answer.proofs.Promised.{step-sound, step-on}
 use Rattle.layout.specs.Layout.{completed, agreement}
 use Rattle.layout.proofs.check_record.Goals as goal
 

@@ -1,5 +1,4 @@
 -- `layout::index` meets its contract: the record's refusal, then the position's, then the place. Assumes nothing.
-use borrow.Author.Rules.{rules}
 use borrow.Author.Tests.{le-leb, lt-leb}
 use mathlib.Core.Path.{ap, ◌∙◌}
 use native.Mathlib.Omega.{arith}

@@ -1,14 +1,13 @@
 -- `packbits::check_rows` meets its promise: the first row that has a fault decides, then what is left over. Assumes nothing.
-use borrow.Author.Rules.{rules}
 use native.Mathlib.Omega.{arith}
-use Prim.Native.Nat.{ℕ, ◌+◌, ◌-◌}
+use Prim.Native.Nat.{ℕ, ◌+◌}
 use mathlib.Core.Path.{◌≡◌, refl}
 use mathlib.Core.List.{List}
 use lib.ListN.{drop}
 use Rattle.answer.specs.Outcome.{Sound}
 use Rattle.answer.proofs.Promised.{refusing}
 use Rattle.packbits.specs.Rows.{row_faults, rows_faults, used, used_outcome, RowMeasured}
-use Rattle.packbits.proofs.Packets.{RowsLooked, rows_none, rows-first, rows_on, rows_end, rows_turned, rest_of}
+use Rattle.packbits.proofs.Packets.{RowsLooked, rows-first, rows_on, rows_end, rows_turned, rest_of}
 use Rattle.laws.proofs.Faults.{answered, declined}
 use Rattle.packbits.proofs.check_rows.Goals as goal
 

@@ -1,15 +1,8 @@
 -- `packbits::pack_row` meets its promise: it refuses for want of room alone, and past that writes literals. Assumes nothing.
-use borrow.Author.Rules.{rules}
-use native.Mathlib.Nat.{sub-zero}
 use native.Mathlib.Omega.{arith}
-use Prim.Native.Nat.{◌+◌, ◌≤◌}
-use mathlib.Core.Path.{sym, ◌∙◌}
-use lib.ListN.{length}
-use Rattle.answer.proofs.Filling.{length_part}
 use Rattle.answer.proofs.Promised.{refuses}
-use Rattle.packbits.specs.Plans.{literals_of, plain_plan, plan_bytes, pack_faults}
-use Rattle.packbits.proofs.Onward.{finishes_with, put_part}
-use Rattle.packbits.proofs.Putting.{plain-bytes, pack_first, pack_sound}
+use Rattle.packbits.specs.Plans.{pack_faults}
+use Rattle.packbits.proofs.Putting.{pack_first}
 use Rattle.packbits.proofs.pack_row.Goals as goal
 
 pub returns-then-out-n : goal.returns-then-out-n

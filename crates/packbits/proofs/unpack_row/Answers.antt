@@ -1,13 +1,9 @@
 -- `packbits::unpack_row` meets its promise: it refuses as the look at the headers does, and past that the row is filled. Assumes nothing.
-use borrow.Author.Rules.{rules}
-use mathlib.Core.Path.{◌≡◌, refl, ◌∙◌}
+use mathlib.Core.Path.{◌≡◌, refl}
 use lib.ListN.{length}
 use Rattle.answer.specs.Outcome.{Sound}
-use Rattle.answer.proofs.Promised.{refuses}
-use Rattle.packbits.specs.Rows.{row_faults, row_bytes, used, used_outcome}
-use Rattle.packbits.proofs.Onward.{finishes_with, put_all}
-use Rattle.packbits.proofs.Packets.{row-filled}
-use Rattle.laws.proofs.Faults.{answered, declined}
+use Rattle.packbits.specs.Rows.{row_faults, used, used_outcome}
+use Rattle.laws.proofs.Faults.{answered}
 use Rattle.packbits.proofs.unpack_row.Goals as goal
 
 pub fill_row-requires : goal.fill_row-requires

@@ -1,22 +1,14 @@
 -- `packbits::write_plan` meets its promise: it refuses for lists of unequal length, a rule that is broken or want of room, and past that writes. Assumes nothing.
-use borrow.Author.Rules.{rules}
-use borrow.Author.Tests.{ltb-false, eq-eqb, ne_eqb, not-false}
-use native.Mathlib.Nat.{sub-zero}
-use native.Mathlib.Omega.{arith}
-use Prim.Native.Nat.{◌≤◌}
-use mathlib.Core.Path.{◌≡◌, refl, sym, ap, ◌∙◌}
-use mathlib.Core.Bool.{true, not}
+use mathlib.Core.Path.{◌≡◌, refl, sym, ◌∙◌}
+use mathlib.Core.Bool.{true}
 use mathlib.Core.List.{List}
 use lib.ListN.{length}
-use Rattle.answer.specs.Outcome.{Fault, Sound, here, later}
-use Rattle.answer.proofs.Filling.{length_part}
-use Rattle.answer.proofs.Promised.{refuses, sound-here}
-use Rattle.packbits.specs.Plans.{Planned, plan_of, keeps, plan_bytes, plan_faults, packed_outcome}
+use Rattle.answer.specs.Outcome.{Fault}
+use Rattle.answer.proofs.Promised.{refuses}
+use Rattle.packbits.specs.Plans.{Planned, plan_of, keeps, plan_faults, packed_outcome}
 use Rattle.packbits.specs.Parts.{plan_length, room_faults}
-use Rattle.packbits.proofs.Onward.{finishes_with, put_part}
-use Rattle.packbits.proofs.Putting.{plan-long, plan-first, plan-sound}
-use Rattle.laws.proofs.Faults.{answered, declined}
-use Rattle.laws.proofs.Says.{held}
+use Rattle.packbits.proofs.Putting.{plan-first}
+use Rattle.laws.proofs.Faults.{declined}
 use Rattle.packbits.proofs.write_plan.Goals as goal
 
 pub returns-in-Refused : goal.returns-in-Refused

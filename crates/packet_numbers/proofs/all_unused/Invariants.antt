@@ -1,12 +1,8 @@
 -- `packet_numbers::all_unused` meets its contract: the answer so far is the test of the numbers so far. Assumes nothing.
-use borrow.Author.Rules.{rules}
-use native.Mathlib.Omega.{arith}
-use mathlib.Core.Path.{◌≡◌, refl}
+use mathlib.Core.Path.{◌≡◌}
 use Prim.Native.Nat.{◌-◌, ◌≤◌}
 use Rattle.laws.specs.Turns.{every}
-use Rattle.laws.proofs.Turns.{every_more}
 use Rattle.packet_numbers.specs.Numbers.{unused}
-use Rattle.packet_numbers.proofs.Standing.{unused-all}
 use Rattle.packet_numbers.proofs.all_unused.Given as goal
 
 abbrev pub invariant-loop-i : goal.invariant-loop-i

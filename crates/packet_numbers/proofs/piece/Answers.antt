@@ -1,13 +1,9 @@
 -- `packet_numbers::piece` meets its promise: numbers that stand for no state are refused, else their parts are lent. Assumes nothing.
-use borrow.Author.Rules.{rules}
-use native.Mathlib.Omega.{arith}
-use mathlib.Core.Path.{◌≡◌, refl, sym, ◌∙◌}
+use mathlib.Core.Path.{◌≡◌, sym, ◌∙◌}
 use mathlib.Core.Bool.{false}
-use lib.ListN.{length, length-set}
 use Rattle.laws.proofs.Says.{clash}
 use Rattle.packet_numbers.specs.Numbers.{strays}
-use Rattle.packet_numbers.proofs.Standing.{kept-long}
-use Rattle.packet_numbers.proofs.Taking.{numbers-refused, numbers_fit, numbers_spread, numbers-done}
+use Rattle.packet_numbers.proofs.Taking.{numbers-refused, numbers-done}
 use Rattle.packet_numbers.proofs.piece.Goals as goal
 
 pub returns-in-Refused : goal.returns-in-Refused

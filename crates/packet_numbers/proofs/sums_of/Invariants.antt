@@ -1,11 +1,7 @@
 -- `packet_numbers::sums_of` meets its contract: as far as the loop came, the sums stand there. Assumes nothing.
-use borrow.Author.Rules.{rules}
-use native.Mathlib.Omega.{arith}
-use mathlib.Core.Path.{refl}
 use Prim.Native.Nat.{◌+◌, ◌-◌}
 use lib.ListN.{get_or}
-use Rattle.laws.proofs.Lists.{FilledTo, filled_none, filled_next}
-use Rattle.packet_numbers.proofs.Standing.{sums-all}
+use Rattle.laws.proofs.Lists.{FilledTo}
 use Rattle.packet_numbers.proofs.sums_of.Given as goal
 
 abbrev pub invariant-loop-i : goal.invariant-loop-i

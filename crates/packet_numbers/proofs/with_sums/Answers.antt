@@ -1,11 +1,4 @@
 -- `packet_numbers::with_sums` meets its contract: the sums so far are stored from number 8 on. Assumes nothing.
-use borrow.Author.Rules.{rules}
-use native.Mathlib.Omega.{arith}
-use native.Mathlib.Numerals.{add-one}
-use mathlib.Core.Path.{◌≡◌, refl}
-use Prim.Native.Nat.{◌-◌, ◌≤◌}
-use lib.ListN.{get_or}
-use Rattle.answer.specs.Table.{table, stores}
 use Rattle.packet_numbers.proofs.Standing.{with_all}
 use Rattle.packet_numbers.proofs.with_sums.Goals as goal
 

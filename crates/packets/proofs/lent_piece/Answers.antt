@@ -1,16 +1,14 @@
 -- `packets::lent_piece` meets its promise: the faults in order, then the bytes. Assumes nothing.
-use borrow.Author.Rules.{rules}
-use borrow.Author.Tests.{lt-ltb, le-ltb, eq-eqb, ne_eqb, not-true, not-false}
+use borrow.Author.Tests.{lt-ltb, le-ltb}
 use native.Mathlib.Omega.{arith}
-use native.Mathlib.Nat.{mod-le}
-use Prim.Native.Nat.{ℕ, ◌+◌, ◌-◌, ◌≤◌, ◌<◌}
+use Prim.Native.Nat.{◌+◌, ◌-◌, ◌≤◌, ◌<◌}
 use mathlib.Core.Path.{◌≡◌, refl, sym, ap, ◌∙◌}
 use mathlib.Core.Bool.{true, not}
 use lib.ListN.{length}
-use Rattle.answer.specs.Outcome.{done, First, Sound, here, later, next, none}
+use Rattle.answer.specs.Outcome.{done, Sound, here, later, next, none}
 use Rattle.packets.specs.declared.Packets.{Packets}
 use Rattle.packets.specs.State.{consistent, most}
-use Rattle.packets.specs.Promises.{state, completes, piece_faults, lent_faults}
+use Rattle.packets.specs.Promises.{state, completes, lent_faults}
 use Rattle.packets.proofs.Checking.{any_order}
 use Rattle.packets.proofs.Behind.{passed, sane_sound}
 use Rattle.packets.proofs.Cut.{completes-is}

@@ -1,5 +1,4 @@
 -- `pixels::divide_row` meets its contract: the table of shares is right, by one computed test of all of it. Assumes nothing.
-use borrow.Author.Rules.{rules}
 use mathlib.Core.Path.{refl}
 use Rattle.laws.proofs.Tabled.{tabled}
 use Rattle.pixels.specs.Finish.{share_of}

@@ -1,9 +1,7 @@
 -- `pixels::invert` meets its promise: the bytes so far are inverted, the rest as they were. Assumes nothing.
-use borrow.Author.Rules.{rules}
-use native.Mathlib.Omega.{arith}
 use Prim.Native.Nat.{◌-◌}
 use lib.ListN.{length}
-use Rattle.laws.proofs.Lists.{filled_none, filled_end, Changed, changed_next}
+use Rattle.laws.proofs.Lists.{Changed}
 use Rattle.pixels.proofs.invert.Given as goal
 
 abbrev pub invariant-loop-k : goal.invariant-loop-k

@@ -1,5 +1,4 @@
 -- `pixels::share` meets its contract. Assumes nothing.
-use borrow.Author.Rules.{rules}
 use mathlib.Core.Path.{sym}
 use Rattle.pixels.proofs.Straight.{share_none, share_divided}
 use Rattle.pixels.proofs.share.Goals as goal

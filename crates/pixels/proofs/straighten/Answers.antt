@@ -1,8 +1,6 @@
 -- `pixels::straighten` meets its contract: a colour times a share, held at 255 before it is rounded. Assumes nothing.
-use native.Mathlib.Nat.{mul-le-mul}
 use native.Mathlib.Omega.{arith}
-use Prim.Native.Nat.{◌*◌, ◌≤◌}
-use mathlib.Core.Logic.{⊎_elim, inl, inr}
+use mathlib.Core.Logic.{inl, inr}
 use Rattle.pixels.proofs.Straight.{straight_held}
 use Rattle.pixels.proofs.straighten.Goals as goal
 use Rattle.pixels.proofs.straighten.Goals.{then-full-lt33423360, else-full-lt33423360}

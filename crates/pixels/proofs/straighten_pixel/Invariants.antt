@@ -1,13 +1,8 @@
 -- `pixels::straighten_pixel` meets its contract: the colours before the alpha byte, one store each. Assumes nothing.
-use borrow.Author.Rules.{rules}
-use native.Mathlib.Numerals.{add-one}
-use native.Mathlib.Omega.{arith}
-use Prim.Native.Nat.{ℕ, ◌+◌, ◌-◌, ◌≤◌, ◌<◌}
-use mathlib.Core.Path.{◌≡◌, refl, ap, ◌∙◌}
-use mathlib.Core.List.{List}
-use lib.ListN.{length, get_or, length-set}
+use Prim.Native.Nat.{◌+◌, ◌-◌, ◌≤◌}
+use mathlib.Core.Path.{◌≡◌}
+use lib.ListN.{length, get_or}
 use Rattle.answer.specs.Table.{stores}
-use Rattle.answer.proofs.Filling.{stores_rest}
 use Rattle.pixels.specs.Render.{straight_colour}
 use Rattle.pixels.proofs.straighten_pixel.Given as goal
 

@@ -1,9 +1,5 @@
 -- `pixels::straighten_pixels` meets its contract: the invariant and its laws are in proofs/Pixels.antt. Assumes nothing.
-use borrow.Author.Rules.{rules}
-use native.Mathlib.Omega.{arith}
-use Prim.Native.Nat.{◌+◌, ◌-◌, ◌≤◌}
-use lib.ListN.{length}
-use Rattle.pixels.proofs.Pixels.{Straight, straight_start, pixel_room, pixel_given, pixel_turned, straight_end}
+use Rattle.pixels.proofs.Pixels.{pixel_turned}
 use Rattle.pixels.proofs.straighten_pixels.Goals as goal
 
 pub loop-at-preserved : goal.loop-at-preserved

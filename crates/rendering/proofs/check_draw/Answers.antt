@@ -1,5 +1,4 @@
 -- `rendering::check_draw` meets its contract: its tests are rule 6.7's, in its order. Assumes nothing.
-use borrow.Author.Rules.{rules}
 use Rattle.rendering.proofs.check_draw.Goals as goal
 
 pub returns : goal.returns

@@ -1,5 +1,4 @@
 -- `rendering::packed_row` meets its contract: the laws are in proofs/PackedRows.antt. Assumes nothing.
-use borrow.Author.Rules.{rules}
 use native.Mathlib.Omega.{arith}
 use Prim.Native.Nat.{◌+◌, ◌*◌, ◌≤◌}
 use mathlib.Core.Logic.{⊎_elim}

@@ -1,7 +1,6 @@
 -- `rendering::render` meets its promise: the refusals, then the rows. Assumes nothing.
-use borrow.Author.Rules.{rules}
 use Rattle.answer.specs.Outcome.{Sound}
-use Rattle.answer.proofs.Promised.{refuses, finishes, step-sound, step-first}
+use Rattle.answer.proofs.Promised.{finishes, step-sound}
 use Rattle.pixels.specs.Render.{render_faults, converted}
 use Rattle.rendering.proofs.Picture.{render_served}
 use Rattle.rendering.proofs.render.Goals as goal

@@ -1,7 +1,6 @@
 -- `rendering::render_row` meets its contract: each kind of layout by its own function. Assumes nothing.
-use borrow.Author.Rules.{rules}
 use borrow.Author.Tests.{ne_eqb}
-use Rattle.rendering.proofs.Picture.{plain_row_of, plain_row_rendered}
+use Rattle.rendering.proofs.Picture.{plain_row_rendered}
 use Rattle.rendering.proofs.render_row.Goals as goal
 
 pub returns-else-l-eq8 : goal.returns-else-l-eq8

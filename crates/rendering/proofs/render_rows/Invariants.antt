@@ -1,9 +1,6 @@
 -- `rendering::render_rows` meets its contract: the invariant and its laws are in proofs/Picture.antt. Assumes nothing.
-use borrow.Author.Rules.{rules}
-use native.Mathlib.Omega.{arith}
-use Prim.Native.Nat.{◌+◌, ◌-◌, ◌≤◌}
-use Rattle.pixels.specs.Render.{row_bytes}
-use Rattle.rendering.proofs.Picture.{RenderedRows, rendered_none, row_small, rendered_room, row_of, rendered_next, rendered_all}
+use Prim.Native.Nat.{◌-◌}
+use Rattle.rendering.proofs.Picture.{RenderedRows}
 use Rattle.rendering.proofs.render_rows.Given as goal
 
 abbrev pub invariant-loop-y : goal.invariant-loop-y

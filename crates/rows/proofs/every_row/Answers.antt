@@ -1,5 +1,5 @@
 -- `rows::every_row` meets its contract: rows of few channels start from nothing, so that they are the strip's. Assumes nothing.
-use Rattle.std.proofs.Common.{◌≡◌, ◌≤◌, false, ◌∙◌, arith, rules, ltb-false}
+use Rattle.std.proofs.Common.{◌≡◌, ◌≤◌, false, ◌∙◌, arith, ltb-false}
 use borrow.Author.Tests.{not-false}
 use Rattle.answer.proofs.Promised.{sound-here}
 use Rattle.samples.specs.Sample.{strip}

@@ -1,9 +1,7 @@
 -- `rows::lead` meets its contract: what is stored up to `at` are the words. Assumes nothing.
-use Rattle.std.proofs.Common.{ℕ, ◌+◌, ◌-◌, ◌≤◌, sym, ap, ◌∙◌, arith, rules}
+use Rattle.std.proofs.Common.{ℕ, sym, ap, ◌∙◌}
 use Rattle.words.specs.Word.{word_at}
-use Rattle.words.proofs.Served.{served-some}
-use Rattle.samples.specs.Sample.{word_of}
-use Rattle.rows.proofs.Loops.{Upto, upto_none, back_at, turn_room, turned, ended}
+use Rattle.rows.proofs.Loops.{back_at, turned}
 use Rattle.rows.proofs.lead.Goals as goal
 
 pub loop-at-preserved : goal.loop-at-preserved

@@ -1,9 +1,8 @@
 -- `rows::predicted_rows` meets its contract: the invariant and its laws are in proofs/Rows.antt. Assumes nothing.
-use Rattle.std.proofs.Common.{◌-◌, ◌<◌, true, length, arith, rules}
-use Rattle.samples.specs.Sample.{strip, Good, stored_at}
+use Rattle.std.proofs.Common.{◌<◌, true, length, arith}
+use Rattle.samples.specs.Sample.{strip, Good}
 use Rattle.samples.proofs.Strips.{good_checked}
-use Rattle.rows.specs.Row.{meant}
-use Rattle.rows.proofs.Rows.{RowsUpto, rows_none, row_room, row_free, part_served, row-meant, row_turned, rows_ended}
+use Rattle.rows.proofs.Rows.{row_room, part_served, row-meant, row_turned}
 use Rattle.rows.proofs.predicted_rows.Goals as goal
 
 pub slice_bounds-row-end : goal.slice_bounds-row-end

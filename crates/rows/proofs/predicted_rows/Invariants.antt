@@ -1,9 +1,8 @@
 -- `rows::predicted_rows` meets its contract: the invariant and its laws are in proofs/Rows.antt. Assumes nothing.
-use Rattle.std.proofs.Common.{◌-◌, ◌<◌, true, length, arith, rules}
-use Rattle.samples.specs.Sample.{strip, Good, stored_at}
-use Rattle.samples.proofs.Strips.{good_checked}
+use Rattle.std.proofs.Common.{◌-◌, true, length}
+use Rattle.samples.specs.Sample.{strip, stored_at}
 use Rattle.rows.specs.Row.{meant}
-use Rattle.rows.proofs.Rows.{RowsUpto, rows_none, row_room, row_free, part_served, row-meant, row_turned, rows_ended}
+use Rattle.rows.proofs.Rows.{RowsUpto}
 use Rattle.rows.proofs.predicted_rows.Given as goal
 
 abbrev pub invariant-loop-at : goal.invariant-loop-at

@@ -1,7 +1,7 @@
 -- `rows::transform_row` meets its promise: it refuses as the check does, and past it writes the row. Assumes nothing.
-use Rattle.std.proofs.Common.{List, length, rules}
+use Rattle.std.proofs.Common.{List}
 use Rattle.answer.specs.Outcome.{Fault, Sound}
-use Rattle.answer.proofs.Promised.{passed, stopped, refuses, finishes}
+use Rattle.answer.proofs.Promised.{passed}
 use Rattle.samples.specs.Promises.{convert_faults}
 use Rattle.rows.specs.Row.{one_row}
 use Rattle.rows.proofs.Rows.{row-served, strip-served}

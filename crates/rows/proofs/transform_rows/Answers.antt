@@ -1,8 +1,8 @@
 -- `rows::transform_rows` meets its promise: it refuses as the check does, and past it writes the strip. Assumes nothing.
-use Rattle.std.proofs.Common.{List, length, arith, rules}
+use Rattle.std.proofs.Common.{List, length, arith}
 use borrow.Author.Tests.{not-false}
 use Rattle.answer.specs.Outcome.{Fault, Sound}
-use Rattle.answer.proofs.Promised.{passed, stopped, refuses, finishes, sound-here}
+use Rattle.answer.proofs.Promised.{passed, finishes, sound-here}
 use Rattle.words.specs.Word.{Bytes}
 use Rattle.samples.specs.Sample.{strip}
 use Rattle.samples.specs.Promises.{convert_faults}

@@ -1,12 +1,11 @@
 -- `rows::transform_words` meets its contract: words in the other order without prediction, else the row predicted or undone.
 -- Assumes nothing.
-use Rattle.std.proofs.Common.{◌≡◌, ◌≤◌, false, length, refl, ◌∙◌, mul-pos, arith, rules, ltb-false}
+use Rattle.std.proofs.Common.{◌≡◌, ◌≤◌, false, length, ◌∙◌, arith, ltb-false}
 use Rattle.words.specs.Word.{Bytes}
 use Rattle.laws.proofs.Groups.{groups-words}
 use Rattle.laws.proofs.Says.{neither}
 use Rattle.rows.specs.Row.{one_row}
 use Rattle.rows.proofs.Loops.{resumed-none}
-use Rattle.rows.proofs.Rows.{one-good}
 use Rattle.rows.proofs.Leading.{lead_fits, lead_on, lead_all, unpredicted}
 use Rattle.rows.proofs.transform_words.Goals as goal
 

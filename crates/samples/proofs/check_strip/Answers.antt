@@ -1,20 +1,11 @@
 -- `samples::check_strip` meets its promise: the tests are rule 3.6's faults, in its order. Assumes nothing.
-use borrow.Author.Rules.{rules}
-use borrow.Author.Tests.{eq-eqb, ne_eqb, lt-ltb, le-ltb, not-true, not-false}
-use mathlib.Core.Path.{◌≡◌, ap, ◌∙◌, sym}
-use mathlib.Core.Bool.{true, not}
-use mathlib.Core.List.{List}
+use mathlib.Core.Path.{◌≡◌, ◌∙◌, sym}
+use mathlib.Core.Bool.{true}
 use native.Mathlib.Nat.{mul-le-mul, mul-pos, lt_of_le_of_lt}
 use native.Mathlib.Omega.{arith}
 use lib.Dec.{lit<}
-use lib.ListN.{drop}
-use Rattle.answer.specs.Outcome.{Fault, here, next, none}
-use Rattle.answer.proofs.Promised.{refusing, finishing}
 use Rattle.words.specs.Promises.{served}
 use Rattle.words.proofs.Served.{served-some}
-use Rattle.laws.proofs.Faults.{Past, past_none, past_one}
-use Rattle.samples.specs.Sample.{strip}
-use Rattle.samples.specs.Promises.{strip_faults}
 use Rattle.samples.proofs.check_strip.Goals as goal
 
 pub overflow_mul-channels : goal.overflow_mul-channels

@@ -1,14 +1,13 @@
 -- `samples::reorder` meets its promise: in one order a copy, in the other each word's bytes backwards. Assumes nothing.
-use borrow.Author.Rules.{rules}
-use borrow.Author.Tests.{eq-eqb, ne_eqb, lt-ltb, le-ltb, not-true, not-false}
+use borrow.Author.Tests.{eq-eqb, ne_eqb, le-ltb}
 use mathlib.Core.Path.{◌≡◌, ap, ◌∙◌, sym}
 use mathlib.Core.Bool.{true, false, not}
 use mathlib.Core.List.{List}
 use native.Mathlib.Omega.{arith}
 use lib.ListN.{length, drop}
 use lib.Dec.{ltb}
-use Rattle.answer.specs.Outcome.{Fault, here, next, none, Sound}
-use Rattle.answer.proofs.Promised.{refuses, hands_on}
+use Rattle.answer.specs.Outcome.{Fault, next, none, Sound}
+use Rattle.answer.proofs.Promised.{hands_on}
 use Rattle.answer.proofs.Filling.{table_same}
 use Rattle.words.specs.Word.{Bytes}
 use Rattle.words.specs.Promises.{served}

@@ -1,12 +1,11 @@
 -- `slots::bilevel_row` meets its promise: whole bytes' columns, then the rest. Assumes nothing.
-use borrow.Author.Rules.{rules}
-use borrow.Author.Tests.{lt-ltb, le-ltb}
+use borrow.Author.Tests.{le-ltb}
 use Prim.Native.Nat.{◌+◌, ◌*◌, ◌/◌, ◌%◌}
 use mathlib.Core.Path.{◌≡◌}
 use native.Mathlib.Omega.{arith}
 use lib.ListN.{length}
-use Rattle.answer.specs.Outcome.{here, next, none, Sound}
-use Rattle.answer.proofs.Promised.{refuses, finishes}
+use Rattle.answer.specs.Outcome.{next, none, Sound}
+use Rattle.answer.proofs.Promised.{finishes}
 use Rattle.slots.specs.Rows.{eighths, bilevel_at, bilevel_faults}
 use Rattle.slots.proofs.Spreading.{spread_filled}
 use Rattle.slots.proofs.bilevel_row.Goals as goal

@@ -1,12 +1,11 @@
 -- `slots::bit_row` meets its promise: whole bytes, then the row's last columns. Assumes nothing.
-use borrow.Author.Rules.{rules}
-use borrow.Author.Tests.{lt-ltb, le-ltb}
+use borrow.Author.Tests.{le-ltb}
 use Prim.Native.Nat.{◌+◌, ◌/◌, ◌<◌}
 use mathlib.Core.Path.{◌≡◌}
 use native.Mathlib.Omega.{arith}
 use lib.ListN.{length}
-use Rattle.answer.specs.Outcome.{here, next, none, Sound}
-use Rattle.answer.proofs.Promised.{refuses, finishes}
+use Rattle.answer.specs.Outcome.{next, none, Sound}
+use Rattle.answer.proofs.Promised.{finishes}
 use Rattle.slots.specs.Rows.{eighths, bits_at, bit_faults}
 use Rattle.laws.proofs.Lists.{filled-one}
 use Rattle.slots.proofs.bit_row.Goals as goal

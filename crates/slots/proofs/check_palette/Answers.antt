@@ -1,5 +1,4 @@
 -- `slots::check_palette` meets its contract: the tests are the faults, in their order. Assumes nothing.
-use borrow.Author.Rules.{rules}
 use borrow.Author.Tests.{not-false}
 use Prim.Native.Nat.{ℕ, ◌+◌, ◌-◌, ◌*◌, ◌/◌, ◌≤◌, ◌<◌}
 use mathlib.Core.Path.{◌≡◌, ap, ◌∙◌}
@@ -14,7 +13,6 @@ use Rattle.answer.proofs.Promised.{sound-here, step-sound, step-refused, step-on
 use Rattle.layout.specs.Layout.{one_two_eight}
 use Rattle.layout.proofs.Accepted.{one_two_eight_lem, up_to_eight}
 use Rattle.slots.specs.Rows.{palette_faults}
-use Rattle.slots.proofs.Painting.{colours-few}
 use Rattle.slots.proofs.check_palette.Goals as goal
 
 -- a test that a call made

@@ -1,15 +1,12 @@
 -- `slots::palette_row` meets its promise: the check's faults, then each column painted. Assumes nothing.
-use borrow.Author.Rules.{rules}
-use Prim.Native.Nat.{◌+◌}
 use mathlib.Core.List.{List}
 use native.Mathlib.Omega.{arith}
 use lib.ListN.{length}
 use Rattle.answer.specs.Outcome.{Fault, Sound}
-use Rattle.answer.proofs.Promised.{refuses, finishes, step-sound, step-first}
+use Rattle.answer.proofs.Promised.{finishes, step-sound}
 use Rattle.words.specs.Word.{Bytes}
-use Rattle.pixels.proofs.HighFirst.{high-few}
-use Rattle.slots.specs.Rows.{palette_at, palette_faults, PaintFits}
-use Rattle.slots.proofs.Painting.{colours-few, paint_fits, palette_filled}
+use Rattle.slots.specs.Rows.{palette_at, palette_faults}
+use Rattle.slots.proofs.Painting.{palette_filled}
 use Rattle.slots.proofs.palette_row.Goals as goal
 
 pub returns-in-Done : goal.returns-in-Done

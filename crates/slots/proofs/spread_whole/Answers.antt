@@ -1,10 +1,8 @@
 -- `slots::spread_whole` meets its contract: eight columns for each byte. Assumes nothing.
-use borrow.Author.Rules.{rules}
-use Prim.Native.Nat.{◌+◌, ◌-◌, ◌*◌, ◌/◌, ◌≤◌}
-use mathlib.Core.Path.{◌≡◌, refl, ap, ◌∙◌}
+use Prim.Native.Nat.{◌+◌, ◌*◌}
+use mathlib.Core.Path.{◌≡◌, ap, ◌∙◌}
 use native.Mathlib.Omega.{arith}
 use lib.ListN.{length, get_or}
-use Rattle.answer.specs.Table.{filled}
 use Rattle.answer.proofs.Filling.{length-filled}
 use Rattle.pixels.specs.Render.{flipped}
 use Rattle.slots.specs.Rows.{bilevel_at}

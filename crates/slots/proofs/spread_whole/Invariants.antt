@@ -1,14 +1,9 @@
 -- `slots::spread_whole` meets its contract: eight columns for each byte. Assumes nothing.
-use borrow.Author.Rules.{rules}
-use Prim.Native.Nat.{◌+◌, ◌-◌, ◌*◌, ◌/◌, ◌≤◌}
-use mathlib.Core.Path.{◌≡◌, refl, ap, ◌∙◌}
-use native.Mathlib.Omega.{arith}
-use lib.ListN.{length, get_or}
+use Prim.Native.Nat.{◌-◌, ◌*◌, ◌/◌, ◌≤◌}
+use mathlib.Core.Path.{◌≡◌}
+use lib.ListN.{length}
 use Rattle.answer.specs.Table.{filled}
-use Rattle.answer.proofs.Filling.{length-filled}
-use Rattle.pixels.specs.Render.{flipped}
 use Rattle.slots.specs.Rows.{bilevel_at}
-use Rattle.slots.proofs.Spreading.{spread_filled}
 use Rattle.slots.proofs.spread_whole.Given as goal
 
 abbrev pub invariant-loop-i : goal.invariant-loop-i

@@ -1,10 +1,7 @@
 -- `slots::whole_bits` meets its contract: a byte for each eight columns. Assumes nothing.
-use borrow.Author.Rules.{rules}
-use Prim.Native.Nat.{◌-◌, ◌/◌, ◌≤◌}
-use mathlib.Core.Path.{◌≡◌, refl}
+use mathlib.Core.Path.{◌≡◌}
 use native.Mathlib.Omega.{arith}
-use lib.ListN.{length, length-set}
-use Rattle.answer.specs.Table.{filled}
+use lib.ListN.{length-set}
 use Rattle.slots.specs.Rows.{bits_at}
 use Rattle.laws.proofs.Lists.{filled-one}
 use Rattle.slots.proofs.whole_bits.Goals as goal

@@ -1,12 +1,9 @@
 -- `slots::whole_bits` meets its contract: a byte for each eight columns. Assumes nothing.
-use borrow.Author.Rules.{rules}
 use Prim.Native.Nat.{◌-◌, ◌/◌, ◌≤◌}
-use mathlib.Core.Path.{◌≡◌, refl}
-use native.Mathlib.Omega.{arith}
-use lib.ListN.{length, length-set}
+use mathlib.Core.Path.{◌≡◌}
+use lib.ListN.{length}
 use Rattle.answer.specs.Table.{filled}
 use Rattle.slots.specs.Rows.{bits_at}
-use Rattle.laws.proofs.Lists.{filled-one}
 use Rattle.slots.proofs.whole_bits.Given as goal
 
 abbrev pub invariant-loop-b : goal.invariant-loop-b

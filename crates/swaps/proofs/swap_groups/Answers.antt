@@ -1,9 +1,6 @@
 -- `swaps::swap_groups` meets its contract: a group a turn, in the order of proofs/Swapping.antt. Assumes nothing.
-use borrow.Author.Rules.{rules}
 use native.Mathlib.Omega.{arith}
-use Prim.Native.Nat.{◌-◌}
-use lib.ListN.{length}
-use Rattle.swaps.proofs.Swapping.{Swapping, begun, room, turned, ended}
+use Rattle.swaps.proofs.Swapping.{room, turned}
 use Rattle.swaps.proofs.swap_groups.Goals as goal
 
 pub swap_group-requires : goal.swap_group-requires

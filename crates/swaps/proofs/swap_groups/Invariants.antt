@@ -1,9 +1,7 @@
 -- `swaps::swap_groups` meets its contract: a group a turn, in the order of proofs/Swapping.antt. Assumes nothing.
-use borrow.Author.Rules.{rules}
-use native.Mathlib.Omega.{arith}
 use Prim.Native.Nat.{◌-◌}
 use lib.ListN.{length}
-use Rattle.swaps.proofs.Swapping.{Swapping, begun, room, turned, ended}
+use Rattle.swaps.proofs.Swapping.{Swapping}
 use Rattle.swaps.proofs.swap_groups.Given as goal
 
 abbrev pub invariant-loop-at : goal.invariant-loop-at

@@ -1,6 +1,5 @@
 -- `tags::fields_of` meets its contract: the fields one by one. Assumes nothing.
 use Rattle.tags.specs.Tags.{fields_by}
-use borrow.Author.Rules.{rules}
 use Rattle.tags.proofs.fields_of.Goals as goal
 
 pub returns : goal.returns

@@ -1,10 +1,8 @@
 -- `tags::read_later` meets its contract: the tags past 262. Assumes nothing.
 use Rattle.answer.proofs.Promised.{finishing, refusing, step-first, step-sound}
 use Rattle.answer.specs.Outcome.{Step, done}
-use Rattle.laws.proofs.Says.{both}
 use Rattle.tags.proofs.Reading.{from_shape, from_split, later_steps, tags_are}
-use Rattle.tags.specs.Tags.{depth, later_faults}
-use borrow.Author.Rules.{rules}
+use Rattle.tags.specs.Tags.{later_faults}
 use mathlib.Core.Path.{◌∙◌, ap}
 use Rattle.tags.proofs.read_later.Goals as goal
 

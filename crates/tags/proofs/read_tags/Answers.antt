@@ -3,7 +3,6 @@ use Rattle.answer.proofs.Promised.{first_more, refusing, sound_skip}
 use Rattle.entries.proofs.Walking.{page_found, page_room, page_unopened}
 use Rattle.entries.specs.Entries.{directory}
 use Rattle.tags.specs.Tags.{said_faults, tag_faults}
-use borrow.Author.Rules.{rules}
 use mathlib.Core.Path.{◌∙◌, sym}
 use Rattle.tags.proofs.read_tags.Goals as goal
 

@@ -1,7 +1,6 @@
 -- `tags::read_used` meets its contract: the tags up to 262, then what is left. Assumes nothing.
 use Rattle.answer.proofs.Promised.{first_more, refusing, sound_skip, step-first, step-sound}
 use Rattle.tags.specs.Tags.{later_faults, said_faults}
-use borrow.Author.Rules.{rules}
 use mathlib.Core.Path.{◌∙◌, sym}
 use Rattle.tags.proofs.read_used.Goals as goal
 

@@ -1,9 +1,6 @@
 -- `tags::strips_per_plane` meets its contract: rounded up, and 0 for strips of no rows. Assumes nothing.
-use Rattle.tags.proofs.Sizes.{few-strips}
 use Rattle.tags.specs.Tags.{strips_per_plane}
-use borrow.Author.Rules.{rules}
 use mathlib.Core.Path.{refl, sym}
-use native.Mathlib.Omega.{arith}
 use native.Mathlib.Nat.{div-zero}
 use Rattle.tags.proofs.strips_per_plane.Goals as goal
 

@@ -1,6 +1,5 @@
 -- `tags::tags_of` meets its contract: the fields one by one. Assumes nothing.
 use Rattle.tags.specs.Tags.{tags_by}
-use borrow.Author.Rules.{rules}
 use Rattle.tags.proofs.tags_of.Goals as goal
 
 pub returns : goal.returns

@@ -1,13 +1,9 @@
 -- `transport::copy` meets its contract: the first i bytes of the output are the source's, the rest as they were.
 -- Assumes nothing.
-use borrow.Author.Rules.{rules}
-use native.Mathlib.Omega.{arith}
-use Prim.Native.Nat.{ℕ, ◌-◌, ◌≤◌}
-use mathlib.Core.Path.{◌≡◌, refl, ap, ◌∙◌}
-use mathlib.Core.List.{List}
-use lib.ListN.{length, get_or, set, length-set}
+use Prim.Native.Nat.{◌-◌, ◌≤◌}
+use mathlib.Core.Path.{◌≡◌}
+use lib.ListN.{length, get_or}
 use Rattle.answer.specs.Table.{filled}
-use Rattle.answer.proofs.Filling.{filled_more}
 use Rattle.transport.proofs.copy.Given as goal
 
 abbrev pub invariant-loop-i : goal.invariant-loop-i

@@ -1,5 +1,4 @@
 -- `transport::reverse_bits` meets its promise: the blocks and the rest are the whole. Assumes nothing.
-use borrow.Author.Rules.{rules}
 use native.Mathlib.Nat.{sub-le}
 use Prim.Native.Nat.{◌%◌}
 use lib.ListN.{length}

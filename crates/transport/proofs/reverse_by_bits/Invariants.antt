@@ -1,9 +1,7 @@
 -- `transport::reverse_by_bits` meets its contract: the bytes so far are reversed, the rest as they were. Assumes nothing.
-use borrow.Author.Rules.{rules}
-use native.Mathlib.Omega.{arith}
 use Prim.Native.Nat.{◌-◌}
 use lib.ListN.{length}
-use Rattle.laws.proofs.Lists.{filled_none, filled_end, Changed, changed_next}
+use Rattle.laws.proofs.Lists.{Changed}
 use Rattle.transport.specs.Moved.{reversed}
 use Rattle.transport.proofs.reverse_by_bits.Given as goal
 

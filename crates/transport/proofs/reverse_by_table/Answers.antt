@@ -1,9 +1,8 @@
 -- `transport::reverse_by_table` meets its contract: a byte's entry is the byte reversed. Assumes nothing.
-use borrow.Author.Rules.{rules}
 use native.Mathlib.Omega.{arith}
-use Prim.Native.Nat.{◌-◌, ◌<◌}
-use lib.ListN.{length, get_or}
-use Rattle.laws.proofs.Lists.{filled_none, filled_end, Changed, changed_next}
+use Prim.Native.Nat.{◌<◌}
+use lib.ListN.{get_or}
+use Rattle.laws.proofs.Lists.{changed_next}
 use Rattle.transport.specs.Moved.{reversed}
 use Rattle.transport.proofs.reverse_by_table.Goals as goal
 

@@ -1,9 +1,7 @@
 -- `transport::reverse_by_table` meets its contract: a byte's entry is the byte reversed. Assumes nothing.
-use borrow.Author.Rules.{rules}
-use native.Mathlib.Omega.{arith}
-use Prim.Native.Nat.{◌-◌, ◌<◌}
-use lib.ListN.{length, get_or}
-use Rattle.laws.proofs.Lists.{filled_none, filled_end, Changed, changed_next}
+use Prim.Native.Nat.{◌-◌}
+use lib.ListN.{length}
+use Rattle.laws.proofs.Lists.{Changed}
 use Rattle.transport.specs.Moved.{reversed}
 use Rattle.transport.proofs.reverse_by_table.Given as goal
 

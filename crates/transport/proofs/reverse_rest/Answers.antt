@@ -1,5 +1,4 @@
 -- `transport::reverse_rest` meets its contract: the table is right, by one computed test of all of it. Assumes nothing.
-use borrow.Author.Rules.{rules}
 use mathlib.Core.Path.{refl}
 use Rattle.laws.proofs.Tabled.{tabled}
 use Rattle.transport.proofs.reverse_rest.Goals as goal

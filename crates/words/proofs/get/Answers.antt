@@ -1,10 +1,9 @@
 -- `words::get` meets its contract: each width's arm reads that width's word, and a width that is none of the first four is 8. Assumes nothing.
-use borrow.Author.Rules.{rules}
-use mathlib.Core.Path.{◌≡◌, sym}
+use mathlib.Core.Path.{◌≡◌}
 use native.Mathlib.Omega.{arith}
 use Rattle.words.specs.Word.{Bytes}
 use Rattle.words.proofs.Served.{served_eight}
-use Rattle.words.proofs.Words.{word-one, word_straight, word-other}
+use Rattle.words.proofs.Words.{word_straight, word-other}
 use Rattle.words.proofs.get.Goals as goal
 
 pub little8-v-requires : goal.little8-v-requires

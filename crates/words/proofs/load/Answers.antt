@@ -1,20 +1,17 @@
 -- `words::load` meets its promise: it refuses exactly as `byte_place` does, whose width is not 0 here. Assumes nothing.
-use borrow.Author.Rules.{rules}
-use borrow.Author.Tests.{le-ltb, ltb-false}
+use borrow.Author.Tests.{ltb-false}
 use mathlib.Core.Path.{◌≡◌, ap, ◌∙◌, sym}
 use mathlib.Core.Bool.{Bool, true, false}
 use mathlib.Core.List.{List, [], ◌∷◌}
-use Prim.Native.Nat.{ℕ, ◌+◌, ◌*◌, ◌≤◌, ◌<◌}
+use Prim.Native.Nat.{ℕ, ◌+◌, ◌*◌, ◌≤◌}
 use native.Mathlib.Nat.{add-mul, one-mul}
 use native.Mathlib.Omega.{arith}
 use lib.Dec.{ltb}
 use lib.ListN.{length}
 use Rattle.answer.specs.Outcome.{Fault, done, unless, truncated}
-use Rattle.answer.proofs.Promised.{done-sound, done-value, sound-here, refused-same}
+use Rattle.answer.proofs.Promised.{done-sound, done-value, sound-here}
 use Rattle.words.specs.declared.Place.{Place}
-use Rattle.words.specs.Word.{Bytes, word_at, modulus}
 use Rattle.words.specs.Promises.{load_width, place_outcome, Placed}
-use Rattle.words.proofs.Words.{word_below}
 use Rattle.words.proofs.Served.{load_served}
 use Rattle.words.proofs.load.Goals as goal
 

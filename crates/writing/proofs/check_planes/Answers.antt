@@ -1,5 +1,4 @@
 -- `writing::check_planes` meets its contract: the tests are rule 7.3's, in its order, and then the picture's bytes. Assumes nothing.
-use borrow.Author.Rules.{rules}
 use lib.ListN.{take}
 use Rattle.answer.specs.Outcome.{Step}
 use Rattle.answer.proofs.Promised.{step-sound, step-refused, step-on}

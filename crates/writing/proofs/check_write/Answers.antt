@@ -1,5 +1,4 @@
 -- `writing::check_write` meets its contract: the record's refusal, then the others. Assumes nothing.
-use borrow.Author.Rules.{rules}
 use Rattle.answer.specs.Outcome.{Step}
 use Rattle.answer.proofs.Promised.{step-sound, step-refused, step-on}
 use Rattle.layout.specs.Layout.{record_faults}

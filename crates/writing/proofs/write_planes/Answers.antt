@@ -1,7 +1,6 @@
 -- `writing::write_planes` meets its promise: the refusals, then the planes. Assumes nothing.
-use borrow.Author.Rules.{rules}
 use Rattle.answer.specs.Outcome.{Sound}
-use Rattle.answer.proofs.Promised.{refuses, finishes, step-sound, step-first}
+use Rattle.answer.proofs.Promised.{finishes, step-sound}
 use Rattle.pixels.specs.Planes.{write_faults, written}
 use Rattle.writing.proofs.Checks.{write_served}
 use Rattle.writing.proofs.write_planes.Goals as goal

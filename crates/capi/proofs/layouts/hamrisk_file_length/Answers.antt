@@ -1,6 +1,5 @@
 -- `hamrisk_file_length` meets its contract: a layout that is refused is refused by `file_length` too, and the record that is handed on is the
 -- completed one, so that what is promised of its length is the call's promise. Assumes nothing.
-use borrow.Author.Rules.{rules}
 use mathlib.Core.Path.{refl, ◌∙◌}
 use Rattle.layout.specs.declared.RasterLayout.{RasterLayout}
 use Rattle.files.specs.declared.Written.{Written}

@@ -1,6 +1,5 @@
 -- `hamrisk_index` meets its contract: a layout that is refused is refused by `index` too, and the record that is handed on is the
 -- completed one, so that what `place_of` promises of it is the call's promise. Assumes nothing.
-use borrow.Author.Rules.{rules}
 use Prim.Native.Nat.{ℕ}
 use mathlib.Core.Path.{refl, ◌∙◌}
 use Rattle.layout.specs.declared.RasterLayout.{RasterLayout}

@@ -1,6 +1,5 @@
 -- `hamrisk_render` meets its contract: a layout that is refused is refused by rendering too, and the record that is handed on is the
 -- completed one, so that the promise of rendering is the call's. Assumes nothing.
-use borrow.Author.Rules.{rules}
 use Prim.Native.Nat.{ℕ}
 use mathlib.Core.Path.{refl, ◌∙◌}
 use mathlib.Core.List.{List}

@@ -1,10 +1,7 @@
 -- `damage::count::few` meets its contract: the sum so far is the count of the marks passed, and so fits a byte. Assumes nothing.
 use native.Mathlib.Omega.{arith}
-use Prim.Native.Nat.{◌-◌, ◌≤◌}
-use mathlib.Core.Path.{◌≡◌}
-use lib.ListN.{length}
-use Rattle.damage.specs.Marks.{damaged, counted}
-use Rattle.damage.proofs.Loops.{bit_mark, counted_next, counted-most}
+use Rattle.damage.specs.Marks.{damaged}
+use Rattle.damage.proofs.Loops.{counted-most}
 use Rattle.damage.proofs.count.few.Goals as goal
 
 pub overflow_add-sum : goal.overflow_add-sum

@@ -1,12 +1,8 @@
 -- `damage::count::total` meets its contract: the sum so far is the count of the blocks passed. Assumes nothing.
-use borrow.Author.Rules.{rules}
 use native.Mathlib.Omega.{arith}
-use Prim.Native.Nat.{◌+◌, ◌-◌, ◌≤◌}
+use Prim.Native.Nat.{◌+◌}
 use mathlib.Core.Path.{◌≡◌}
-use lib.ListN.{length}
-use Rattle.answer.proofs.Filling.{length_part}
 use Rattle.damage.specs.Marks.{damaged, counted}
-use Rattle.laws.proofs.Lists.{each_part}
 use Rattle.damage.proofs.Loops.{part_count, counted-most}
 use Rattle.damage.proofs.count.total.Goals as goal
 

@@ -1,7 +1,4 @@
 -- `damage::first::first_damaged` meets its contract: all that was passed is sound. Assumes nothing.
-use borrow.Author.Rules.{rules}
-use borrow.Author.Count.{below_more}
-use native.Mathlib.Omega.{arith}
 use Prim.Native.Nat.{◌-◌, ◌≤◌}
 use lib.ListN.{length}
 use Rattle.damage.specs.Passes.{SoundTo}

@@ -1,11 +1,6 @@
 -- `damage::first::sound` meets its contract: no byte so far is larger than the largest. Assumes nothing.
-use borrow.Author.Rules.{rules}
-use borrow.Author.Count.{below_more}
-use borrow.Author.Tests.{eqb-true}
-use native.Mathlib.Omega.{arith}
 use Prim.Native.Nat.{ℕ, ◌-◌, ◌≤◌, ◌<◌}
 use lib.ListN.{length, get_or}
-use Rattle.damage.proofs.Loops.{larger_both}
 use Rattle.damage.proofs.first.sound.Given as goal
 
 abbrev pub invariant-loop-n : goal.invariant-loop-n

@@ -1,10 +1,5 @@
 -- `damage::first::sound_blocks` meets its contract: all that was passed is sound. Assumes nothing.
-use borrow.Author.Rules.{rules}
-use borrow.Author.Tests.{not-false}
 use native.Mathlib.Omega.{arith}
-use Prim.Native.Nat.{◌-◌, ◌≤◌}
-use lib.ListN.{length}
-use Rattle.damage.specs.Passes.{SoundTo}
 use Rattle.damage.proofs.Begins.{sound-on}
 use Rattle.damage.proofs.first.sound_blocks.Goals as goal
 

@@ -1,11 +1,7 @@
 -- `damage::first::sound_blocks` meets its contract: all that was passed is sound. Assumes nothing.
-use borrow.Author.Rules.{rules}
-use borrow.Author.Tests.{not-false}
-use native.Mathlib.Omega.{arith}
 use Prim.Native.Nat.{◌-◌, ◌≤◌}
 use lib.ListN.{length}
 use Rattle.damage.specs.Passes.{SoundTo}
-use Rattle.damage.proofs.Begins.{sound-on}
 use Rattle.damage.proofs.first.sound_blocks.Given as goal
 
 abbrev pub invariant-loop-at : goal.invariant-loop-at

@@ -1,9 +1,8 @@
 -- `damage::onward::onward` meets its contract: the invariant and its laws are in proofs/Loops.antt. Assumes nothing.
-use borrow.Author.Rules.{rules}
 use native.Mathlib.Omega.{arith}
-use Prim.Native.Nat.{◌-◌, ◌<◌}
+use Prim.Native.Nat.{◌<◌}
 use lib.ListN.{length}
-use Rattle.damage.proofs.Loops.{Onward, onward_none, onward_turned, onward_ended}
+use Rattle.damage.proofs.Loops.{onward_none, onward_turned, onward_ended}
 use Rattle.damage.proofs.onward.onward.Goals as goal
 
 pub loop-n-init : goal.loop-n-init

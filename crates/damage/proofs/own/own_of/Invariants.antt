@@ -1,10 +1,7 @@
 -- `damage::own::own_of` meets its contract, at every width: the invariant and its laws are in proofs/Loops.antt. Assumes nothing.
-use borrow.Author.Rules.{rules}
-use native.Mathlib.Omega.{arith}
-use Prim.Native.Nat.{◌+◌, ◌-◌, ◌≤◌, ◌<◌}
+use Prim.Native.Nat.{◌-◌}
 use lib.ListN.{length}
-use Rattle.laws.proofs.Lists.{filled_end}
-use Rattle.damage.proofs.Loops.{Owning, owning_none, own_room, own_turned}
+use Rattle.damage.proofs.Loops.{Owning}
 use Rattle.damage.proofs.own.own_of.Given as goal
 
 abbrev pub invariant-loop-n : goal.invariant-loop-n

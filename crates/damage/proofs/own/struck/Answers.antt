@@ -1,5 +1,4 @@
 -- `damage::own::struck` meets its contract: each arm joins its width's bytes, and a width that is none of the first four is 8. Assumes nothing.
-use borrow.Author.Rules.{rules}
 use mathlib.Core.Path.{◌≡◌, ap, ◌∙◌}
 use mathlib.Core.Bool.{true, not}
 use native.Mathlib.Omega.{arith}

@@ -3,7 +3,6 @@ use Rattle.answer.proofs.Promised.{finishing, refusing}
 use Rattle.directory.proofs.Laying.{laid_small}
 use Rattle.layout.specs.Layout.{checked_outcome, completed, layout_faults}
 use Rattle.laws.proofs.Faults.{answered, declined}
-use borrow.Author.Rules.{rules}
 use mathlib.Core.Path.{refl}
 use Rattle.directory.proofs.pages.lay_out.Goals as goal
 

@@ -1,6 +1,5 @@
 -- `directory::pages::open_page` meets its contract: the tags' faults, then the layout's. Assumes nothing.
 use Rattle.directory.proofs.Laying.{tags_laid, tags_refused}
-use borrow.Author.Rules.{rules}
 use Rattle.directory.proofs.pages.open_page.Goals as goal
 
 pub returns-in-Refused : goal.returns-in-Refused

@@ -1,13 +1,11 @@
 -- `directory::strips::check_strips` meets its contract: the first strip that has a fault decides. Assumes nothing.
-use Prim.Native.Nat.{◌%◌, ◌-◌, ◌≤◌}
-use Rattle.answer.proofs.Promised.{finishing, passed, refusing, step-first, step-sound}
-use Rattle.answer.specs.Outcome.{Sound, none}
-use Rattle.directory.proofs.Turning.{turn_on, turn_within}
+use Rattle.answer.proofs.Promised.{finishing, refusing, step-first, step-sound}
+use Rattle.answer.specs.Outcome.{none}
+use Rattle.directory.proofs.Turning.{turn_on}
 use Rattle.directory.specs.Page.{strip_faults}
 use Rattle.laws.proofs.Turns.{turn_first, turns_more}
 use Rattle.laws.specs.Turns.{faults_below}
 use Rattle.tags.specs.Tags.{strips_per_plane}
-use borrow.Author.Rules.{rules}
 use mathlib.Core.Path.{◌≡◌, sym}
 use native.Mathlib.Omega.{arith}
 use native.Mathlib.Nat.{zero-mod}

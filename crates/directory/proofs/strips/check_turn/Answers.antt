@@ -6,7 +6,6 @@ use Rattle.answer.specs.declared.Done.{Done}
 use Rattle.directory.specs.Page.{packed_faults, part_faults, smaller, strip_faults, strip_length, strip_place, strip_rows}
 use Rattle.directory.specs.declared.strips.Strips.{Strips}
 use Rattle.packbits.specs.Rows.{rows_faults}
-use borrow.Author.Rules.{rules}
 use borrow.Author.Tests.{ltb-false}
 use lib.ListN.{drop, length, take}
 use mathlib.Core.List.{List, []}

@@ -1,12 +1,7 @@
 -- `directory::strips::fill_parts` meets its contract: two numbers a turn. Assumes nothing.
-use Prim.Native.Nat.{◌*◌, ◌+◌, ◌-◌, ◌≤◌}
 use Rattle.directory.proofs.Filling.{length-number, parts_more, place-number}
 use Rattle.directory.specs.Page.{part_number}
-use Rattle.entries.specs.Entries.{place}
-use Rattle.laws.proofs.Lists.{FilledTo, filled_none}
-use borrow.Author.Rules.{rules}
-use lib.ListN.{length-set}
-use mathlib.Core.Path.{◌∙◌, ◌≡◌, refl, sym}
+use mathlib.Core.Path.{◌∙◌, sym}
 use native.Mathlib.Omega.{arith}
 use Rattle.directory.proofs.strips.fill_parts.Goals as goal
 

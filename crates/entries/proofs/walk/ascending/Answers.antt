@@ -1,14 +1,7 @@
 -- `entries::walk::ascending` meets its contract: each tag is held against the next. Assumes nothing.
-use Prim.Native.Nat.{◌+◌, ◌-◌, ◌≤◌, ℕ}
-use Rattle.entries.specs.Entries.{ascending, tag_at}
-use Rattle.entries.specs.declared.Directory.{Directory}
-use Rattle.laws.proofs.Turns.{every_more}
-use Rattle.laws.specs.Turns.{every}
-use borrow.Author.Rules.{rules}
-use lib.Dec.{ltb}
-use mathlib.Core.Bool.{Bool}
-use mathlib.Core.List.{List}
-use mathlib.Core.Path.{◌≡◌, refl}
+use Prim.Native.Nat.{◌-◌}
+use Rattle.entries.specs.Entries.{ascending}
+use mathlib.Core.Path.{◌≡◌}
 use native.Mathlib.Omega.{arith}
 use Rattle.entries.proofs.walk.ascending.Goals as goal
 

@@ -1,15 +1,12 @@
 -- `entries::walk::ascending` meets its contract: each tag is held against the next. Assumes nothing.
 use Prim.Native.Nat.{◌+◌, ◌-◌, ◌≤◌, ℕ}
-use Rattle.entries.specs.Entries.{ascending, tag_at}
+use Rattle.entries.specs.Entries.{tag_at}
 use Rattle.entries.specs.declared.Directory.{Directory}
-use Rattle.laws.proofs.Turns.{every_more}
 use Rattle.laws.specs.Turns.{every}
-use borrow.Author.Rules.{rules}
 use lib.Dec.{ltb}
 use mathlib.Core.Bool.{Bool}
 use mathlib.Core.List.{List}
-use mathlib.Core.Path.{◌≡◌, refl}
-use native.Mathlib.Omega.{arith}
+use mathlib.Core.Path.{◌≡◌}
 use Rattle.entries.proofs.walk.ascending.Given as goal
 
 abbrev below_next : List ℕ → Directory → ℕ → Bool

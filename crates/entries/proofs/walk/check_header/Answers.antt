@@ -1,8 +1,7 @@
 -- `entries::walk::check_header` meets its contract: page, length, byte order, 42, in this order. Assumes nothing.
-use Rattle.answer.proofs.Promised.{passed, refusing}
+use Rattle.answer.proofs.Promised.{refusing}
 use Rattle.answer.specs.Outcome.{Fault, here, later}
-use Rattle.entries.specs.Entries.{header_faults, last_page, long}
-use borrow.Author.Rules.{rules}
+use Rattle.entries.specs.Entries.{header_faults, last_page}
 use borrow.Author.Tests.{le-ltb, lt-ltb}
 use lib.ListN.{length}
 use mathlib.Core.List.{List}

@@ -1,5 +1,4 @@
 -- `files::front::bits_last` meets its contract: one sample or two stand in the entry, more outside. Assumes nothing.
-use borrow.Author.Rules.{rules}
 use native.Mathlib.Omega.{arith}
 use Prim.Native.Nat.{◌≤◌}
 use Rattle.layout.proofs.Accepted.{up_to_eight}

@@ -1,5 +1,4 @@
 -- `files::front::depth_of` meets its contract: one bit of eight in a byte, else whole bytes. Assumes nothing.
-use borrow.Author.Rules.{rules}
 use Rattle.files.specs.File.{bits_of}
 use Rattle.files.proofs.front.depth_of.Goals as goal
 

@@ -1,5 +1,4 @@
 -- `files::front::photometric` meets its contract: RGB, or white is 0 or not. Assumes nothing.
-use borrow.Author.Rules.{rules}
 use Rattle.files.specs.File.{photometric}
 use Rattle.files.proofs.front.photometric.Goals as goal
 

@@ -1,5 +1,4 @@
 -- `files::front::planar` meets its contract: planes apart or together. Assumes nothing.
-use borrow.Author.Rules.{rules}
 use Rattle.files.specs.File.{planar}
 use Rattle.files.proofs.front.planar.Goals as goal
 

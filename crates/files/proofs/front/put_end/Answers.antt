@@ -1,5 +1,4 @@
 -- `files::front::put_end` meets its contract: with alpha entry 14, and behind the entries 0. Assumes nothing.
-use borrow.Author.Rules.{rules}
 use native.Mathlib.Omega.{arith}
 use mathlib.Core.Path.{◌≡◌, refl}
 use Prim.Native.Nat.{◌-◌}

@@ -1,11 +1,8 @@
 -- `files::front::put_front` meets its contract: the directory, and the values outside it, one list behind the other. Assumes nothing.
-use borrow.Author.Rules.{rules}
 use native.Mathlib.Omega.{arith}
 use mathlib.Core.Path.{refl}
-use Rattle.layout.proofs.Accepted.{up_to_eight}
 use Rattle.files.proofs.Holding.{wrote_on}
-use Rattle.files.proofs.Sizes.{fields_accepted}
-use Rattle.files.proofs.Writing.{laid, wrote-same, length-wrote}
+use Rattle.files.proofs.Writing.{laid, wrote-same}
 use Rattle.files.proofs.front.put_front.Goals as goal
 
 pub returns : goal.returns

@@ -1,5 +1,4 @@
 -- `files::front::put_header` meets its contract: three numbers of the header, and one of the directory. Assumes nothing.
-use borrow.Author.Rules.{rules}
 use native.Mathlib.Omega.{arith}
 use mathlib.Core.Path.{refl}
 use Rattle.entries.specs.Entries.{II}

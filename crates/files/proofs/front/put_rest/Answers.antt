@@ -1,5 +1,4 @@
 -- `files::front::put_rest` meets its contract: entries 9 to 13, one behind the other. Assumes nothing.
-use borrow.Author.Rules.{rules}
 use native.Mathlib.Omega.{arith}
 use Prim.Native.Nat.{ℕ, ◌+◌, ◌≤◌}
 use lib.ListN.{length}

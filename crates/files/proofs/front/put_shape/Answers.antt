@@ -1,5 +1,4 @@
 -- `files::front::put_shape` meets its contract: entries 0 to 4, one behind the other. Assumes nothing.
-use borrow.Author.Rules.{rules}
 use native.Mathlib.Omega.{arith}
 use Prim.Native.Nat.{◌≤◌}
 use lib.ListN.{length}

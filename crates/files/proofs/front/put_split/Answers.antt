@@ -1,5 +1,4 @@
 -- `files::front::put_split` meets its contract: entries 5 to 8, one behind the other. Assumes nothing.
-use borrow.Author.Rules.{rules}
 use native.Mathlib.Omega.{arith}
 use Prim.Native.Nat.{ℕ}
 use mathlib.Core.Path.{refl, ap, ◌∙◌}

@@ -1,5 +1,4 @@
 -- `files::plan::outside` meets its contract: none of them where they fit their entry. Assumes nothing.
-use borrow.Author.Rules.{rules}
 use Rattle.files.specs.File.{outside}
 use Rattle.files.proofs.plan.outside.Goals as goal
 

@@ -1,5 +1,4 @@
 -- `files::plan::plan_of` meets its contract: each number is its definition, and of a layout that is served none is large. Assumes nothing.
-use borrow.Author.Rules.{rules}
 use Prim.Native.Nat.{ℕ, ◌+◌, ◌-◌, ◌*◌, ◌/◌, ◌≤◌}
 use native.Mathlib.Nat.{mul-le-mul}
 use native.Mathlib.Omega.{arith}

@@ -1,14 +1,9 @@
 -- `files::tables::put_bits` meets its contract: a number a turn, each the bits of a sample. Assumes nothing.
-use borrow.Author.Rules.{rules}
 use Prim.Native.Nat.{◌-◌, ◌*◌, ◌≤◌}
-use native.Mathlib.Omega.{arith}
-use mathlib.Core.Path.{◌≡◌, refl}
+use mathlib.Core.Path.{◌≡◌}
 use Rattle.layout.specs.declared.Fields.{Fields}
 use Rattle.files.specs.File.{bits_of, front}
 use Rattle.files.specs.Parts.{Planned, Wrote}
-use Rattle.files.proofs.Holding.{holds_at}
-use Rattle.files.proofs.Places.{holds_bit}
-use Rattle.files.proofs.Writing.{laid, wrote-same, length-wrote, number-wrote}
 use Rattle.files.proofs.tables.put_bits.Given as goal
 
 abbrev pub invariant-loop-j : goal.invariant-loop-j

@@ -1,5 +1,4 @@
 -- `files::tables::put_resolutions` meets its contract: four numbers, one after another. Assumes nothing.
-use borrow.Author.Rules.{rules}
 use native.Mathlib.Omega.{arith}
 use mathlib.Core.Path.{refl, sym}
 use mathlib.Core.List.{◌++◌}

@@ -1,13 +1,10 @@
 -- `files::tables::put_strips` meets its contract: a number a turn, the strip's place or its length. Assumes nothing.
-use borrow.Author.Rules.{rules}
-use Prim.Native.Nat.{◌+◌, ◌-◌, ◌*◌, ◌≤◌}
+use Prim.Native.Nat.{◌+◌, ◌*◌, ◌≤◌}
 use native.Mathlib.Omega.{arith}
-use Rattle.layout.specs.declared.Fields.{Fields}
 use Rattle.files.specs.File.{strips}
-use Rattle.files.specs.Parts.{Planned}
 use Rattle.files.proofs.Sizes.{strip-limit, strip_small, file_small, outside-within}
 use Rattle.files.proofs.Stripping.{Stripped, stripped_none, inside, bytes_are, stripped_on}
-use Rattle.files.proofs.Writing.{laid, wrote-same, length-wrote}
+use Rattle.files.proofs.Writing.{laid, length-wrote}
 use Rattle.files.proofs.tables.put_strips.Goals as goal
 
 pub loop-k-init : goal.loop-k-init

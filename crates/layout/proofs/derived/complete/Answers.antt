@@ -1,7 +1,5 @@
 -- `layout::derived::complete` meets its contract: each field is its definition, and within the limits nothing wraps. Assumes nothing.
-use borrow.Author.Rules.{rules}
 use native.Mathlib.Omega.{arith}
-use mir.Facts.{Fits-below}
 use Rattle.layout.specs.Layout.{encoded_width, plane_length, scratch_length, output_length}
 use Rattle.layout.proofs.Accepted.{Accepted, accepted, up_to_eight}
 use Rattle.layout.proofs.Sizes.{area_fits, part_fits, whole-fits, encoded_side, plane_few, planes-few}

@@ -1,5 +1,4 @@
 -- `layout::rules::check_agreed` meets its contract: its tests are the step's, in their order. Assumes nothing.
-use borrow.Author.Rules.{rules}
 use mathlib.Core.Path.{◌≡◌}
 use mathlib.Core.Bool.{Bool, not}
 use mathlib.Core.List.{[], ◌∷◌}

@@ -1,5 +1,4 @@
 -- `layout::rules::check_served` meets its contract: its tests are the step's, in their order. Assumes nothing.
-use borrow.Author.Rules.{rules}
 use Rattle.layout.proofs.rules.check_served.Goals as goal
 
 pub returns : goal.returns

@@ -6,7 +6,7 @@ use Rattle.answer.specs.Outcome.{here, later, next, none}
 use Rattle.answer.proofs.Promised.{refusing, finishing}
 use Rattle.layout.specs.Layout.{side_limit, byte_limit, output_length, size_faults}
 use Rattle.layout.proofs.Accepted.{served-few}
-use Rattle.layout.proofs.Sizes.{area_fits, part_fits, whole-fits}
+use Rattle.layout.proofs.Sizes.{part_fits, whole-fits}
 use Rattle.layout.proofs.rules.check_size.Goals as goal
 
 pub overflow_mul-f-2 : goal.overflow_mul-f-2

@@ -1,5 +1,4 @@
 -- `layout::source::high_first` meets its contract: the two tests, then the sum. Assumes nothing.
-use borrow.Author.Rules.{rules}
 use borrow.Author.Tests.{eq-eqb, ne_eqb}
 use Rattle.layout.specs.Layout.{high_first}
 use native.Mathlib.Omega.{arith}

@@ -1,6 +1,5 @@
 -- `layout::source::plain_index` meets its contract: nothing divides by 0, the sample's place is there, and the byte is within the planes.
 -- Assumes nothing.
-use borrow.Author.Rules.{rules}
 use borrow.Author.Tests.{ne_eqb, le-ltb}
 use native.Mathlib.Omega.{arith}
 use native.Mathlib.Nat.{le-mul_of_pos_right, mul_comm}
@@ -14,7 +13,7 @@ use Rattle.layout.specs.Layout.{byte_limit, pixel_of, byte_of, sample_index, pla
 use Rattle.layout.proofs.Accepted.{up_to_eight}
 use Rattle.layout.proofs.Sizes.{bytes-few}
 use Rattle.layout.proofs.Whole.{record_accepted}
-use Rattle.layout.proofs.Placed.{stride_some, plain_below, sample-place, sample-inside, scratch_limited}
+use Rattle.layout.proofs.Placed.{stride_some, sample-place, sample-inside, scratch_limited}
 use Rattle.layout.proofs.source.plain_index.Goals as goal
 
 pub overflow_mul-stride : goal.overflow_mul-stride

@@ -1,5 +1,4 @@
 -- `packbits::moving::copy` meets its contract: a part of the row is a copy of a part of the input. Assumes nothing.
-use borrow.Author.Rules.{rules}
 use Rattle.packbits.proofs.Placing.{part_copied}
 use Rattle.packbits.proofs.moving.copy.Goals as goal
 

@@ -1,5 +1,4 @@
 -- `packbits::moving::copy_bytes` meets its contract: blocks whose front the bytes are, or they alone. Assumes nothing.
-use borrow.Author.Rules.{rules}
 use borrow.Author.Tests.{leb-true}
 use native.Mathlib.Omega.{arith}
 use Prim.Native.Nat.{ℕ, ◌+◌, ◌-◌, ◌*◌, ◌/◌}

@@ -1,10 +1,7 @@
 -- `packbits::moving::fill` meets its contract: what is written so far is the byte. Assumes nothing.
-use borrow.Author.Rules.{rules}
-use native.Mathlib.Omega.{arith}
-use Prim.Native.Nat.{◌-◌, ◌<◌}
-use mathlib.Core.Path.{refl}
+use Prim.Native.Nat.{◌-◌}
 use lib.ListN.{length}
-use Rattle.laws.proofs.Lists.{FilledTo, filled_none, filled_next, filled_end}
+use Rattle.laws.proofs.Lists.{FilledTo}
 use Rattle.packbits.proofs.moving.fill.Given as goal
 
 abbrev pub invariant-loop-n : goal.invariant-loop-n

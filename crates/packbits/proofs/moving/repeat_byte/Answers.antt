@@ -1,5 +1,4 @@
 -- `packbits::moving::repeat_byte` meets its contract: a block whose front the bytes are, or they alone. Assumes nothing.
-use borrow.Author.Rules.{rules}
 use native.Mathlib.Omega.{arith}
 use Prim.Native.Nat.{◌+◌, ◌≤◌}
 use lib.ListN.{length}

@@ -1,14 +1,11 @@
 -- `packbits::plans::alike` meets its contract: so far all bytes are the first. Assumes nothing.
-use borrow.Author.Rules.{rules}
-use native.Mathlib.Omega.{arith}
 use Prim.Native.Nat.{ℕ, ◌-◌, ◌≤◌}
-use mathlib.Core.Path.{◌≡◌, refl}
+use mathlib.Core.Path.{◌≡◌}
 use mathlib.Core.Bool.{Bool}
 use mathlib.Core.List.{List}
 use lib.ListN.{length, get_or}
 use lib.Dec.{eqb}
 use Rattle.laws.specs.Turns.{every}
-use Rattle.laws.proofs.Turns.{every_more}
 use Rattle.packbits.proofs.plans.alike.Given as goal
 
 abbrev same-as-first : List ℕ → ℕ → Bool

@@ -1,10 +1,9 @@
 -- `packbits::plans::check_plan` meets its contract: the first packet that breaks a rule decides, then the sum. Assumes nothing.
-use borrow.Author.Tests.{not-true, not-false}
 use native.Mathlib.Omega.{arith}
-use Prim.Native.Nat.{◌+◌, ◌-◌, ◌≤◌}
+use Prim.Native.Nat.{◌+◌}
 use mathlib.Core.Path.{sym, ◌∙◌}
-use lib.ListN.{length, get_or}
-use Rattle.packbits.proofs.Planning.{Checked, checked_none, checked_fails, checked_on, checked_end}
+use lib.ListN.{get_or}
+use Rattle.packbits.proofs.Planning.{Checked, checked_on}
 use Rattle.packbits.proofs.plans.check_plan.Goals as goal
 
 pub loop-k-preserved : goal.loop-k-preserved

@@ -1,5 +1,4 @@
 -- `packbits::plans::kept` meets its contract: the packet passes the row's end, is a literal, or is a repeat. Assumes nothing.
-use borrow.Author.Rules.{rules}
 use native.Mathlib.Omega.{arith}
 use Rattle.packbits.proofs.Planning.{kept-short, kept-literal, kept-other}
 use Rattle.packbits.proofs.plans.kept.Goals as goal

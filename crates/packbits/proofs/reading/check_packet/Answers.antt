@@ -1,5 +1,4 @@
 -- `packbits::reading::check_packet` meets its contract: the three faults in their order. Assumes nothing.
-use borrow.Author.Rules.{rules}
 use native.Mathlib.Omega.{arith}
 use Rattle.packbits.proofs.Packets.{missing, there}
 use Rattle.packbits.proofs.reading.check_packet.Goals as goal

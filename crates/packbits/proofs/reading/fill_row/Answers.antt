@@ -5,7 +5,7 @@ use Prim.Native.Nat.{ℕ, ◌+◌, ◌-◌, ◌≤◌, ◌<◌}
 use mathlib.Core.Path.{◌∙◌}
 use lib.ListN.{length, get_or}
 use Rattle.packbits.proofs.Onward.{placed-none}
-use Rattle.packbits.proofs.Packets.{Filling, filling_none, packet_fits, ends, filling_on, filling_end, FitsAt, Header, copies, rests, repeats, copied_bytes, repeated_bytes}
+use Rattle.packbits.proofs.Packets.{packet_fits, ends, filling_on, FitsAt, Header, copies, rests, repeats, copied_bytes, repeated_bytes}
 use Rattle.packbits.proofs.reading.fill_row.Goals as goal
 
 pub bounds-packed-at : goal.bounds-packed-at

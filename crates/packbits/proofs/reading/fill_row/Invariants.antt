@@ -1,11 +1,7 @@
 -- `packbits::reading::fill_row` meets its contract: each packet goes where the one before it ended. Assumes nothing.
-use native.Mathlib.Omega.{arith}
-use native.Mathlib.Nat.{add-zero}
-use Prim.Native.Nat.{ℕ, ◌+◌, ◌-◌, ◌≤◌, ◌<◌}
-use mathlib.Core.Path.{◌∙◌}
-use lib.ListN.{length, get_or}
-use Rattle.packbits.proofs.Onward.{placed-none}
-use Rattle.packbits.proofs.Packets.{Filling, filling_none, packet_fits, ends, filling_on, filling_end, FitsAt, Header, copies, rests, repeats, copied_bytes, repeated_bytes}
+use Prim.Native.Nat.{◌-◌}
+use lib.ListN.{length}
+use Rattle.packbits.proofs.Packets.{Filling}
 use Rattle.packbits.proofs.reading.fill_row.Given as goal
 
 abbrev pub invariant-loop-from : goal.invariant-loop-from

@@ -1,5 +1,4 @@
 -- `packbits::reading::fills` meets its contract: the three kinds of first bytes. Assumes nothing.
-use borrow.Author.Rules.{rules}
 use native.Mathlib.Omega.{arith}
 use mathlib.Core.Path.{sym}
 use Rattle.packbits.proofs.Packets.{copies, rests, repeats}

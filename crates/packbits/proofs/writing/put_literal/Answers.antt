@@ -1,7 +1,6 @@
 -- `packbits::writing::put_literal` meets its contract: the length less one, and the bytes behind it. Assumes nothing.
 use native.Mathlib.Omega.{arith}
 use Prim.Native.Nat.{◌-◌}
-use mathlib.Core.Path.{◌∙◌}
 use lib.ListN.{drop, length-drop, length-set}
 use Rattle.packbits.specs.Parts.{Literal}
 use Rattle.packbits.proofs.Planning.{Kept, kept-is}

@@ -1,9 +1,5 @@
 -- `packbits::writing::put_literals` meets its contract: each literal goes where the one before it ended. Assumes nothing.
-use borrow.Author.Rules.{rules}
-use native.Mathlib.Omega.{arith}
-use Prim.Native.Nat.{◌-◌}
-use lib.ListN.{length}
-use Rattle.packbits.proofs.Putting.{PuttingPlain, plain-none, FirstLiteral, literal_of, literal-first, literal-fits, plain-on, plain_end}
+use Rattle.packbits.proofs.Putting.{literal-fits, plain-on}
 use Rattle.packbits.proofs.writing.put_literals.Goals as goal
 
 pub put_literal-requires : goal.put_literal-requires

@@ -1,9 +1,7 @@
 -- `packbits::writing::put_plan` meets its contract: each packet goes where the one before it ended. Assumes nothing.
-use borrow.Author.Rules.{rules}
-use native.Mathlib.Omega.{arith}
 use Prim.Native.Nat.{◌-◌, ◌≤◌}
 use lib.ListN.{length}
-use Rattle.packbits.proofs.Putting.{Putting, putting_none, planned-fits, next-inside, putting_on, putting_end}
+use Rattle.packbits.proofs.Putting.{Putting}
 use Rattle.packbits.proofs.writing.put_plan.Given as goal
 
 abbrev pub invariant-loop-k : goal.invariant-loop-k

@@ -1,9 +1,6 @@
 -- `packbits::writing::put_planned` meets its contract: a literal, or a repeat in two bytes. Assumes nothing.
-use borrow.Author.Rules.{rules}
-use borrow.Author.Tests.{ne_eqb}
 use native.Mathlib.Omega.{arith}
-use Prim.Native.Nat.{◌+◌, ◌-◌, ◌≤◌}
-use lib.ListN.{length, drop, length-drop, length-set}
+use lib.ListN.{drop, length-drop}
 use Rattle.packbits.proofs.Planning.{Kept, kept-is}
 use Rattle.packbits.proofs.Putting.{repeat_put}
 use Rattle.packbits.proofs.writing.put_planned.Goals as goal

@@ -1,9 +1,8 @@
 -- `packets::Packets::close` meets its promise: the check, then whole rows. Assumes nothing.
-use borrow.Author.Rules.{rules}
-use borrow.Author.Tests.{eq-eqb, ne_eqb, not-true, not-false}
+use borrow.Author.Tests.{eq-eqb}
 use mathlib.Core.Path.{◌≡◌, sym, ap, ◌∙◌}
 use mathlib.Core.Bool.{true, not}
-use Rattle.answer.specs.Outcome.{here, later, next, none}
+use Rattle.answer.specs.Outcome.{here, next, none}
 use Rattle.answer.proofs.Promised.{refusing, finishing}
 use Rattle.packets.specs.State.{consistent}
 use Rattle.packets.specs.Promises.{close_faults}

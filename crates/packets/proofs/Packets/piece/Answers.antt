@@ -1,9 +1,8 @@
 -- `packets::Packets::piece` meets its promise: the state's parts are lent. Assumes nothing.
 use borrow.Author.Rules.{rules}
-use native.Mathlib.Omega.{arith}
 use mathlib.Core.Path.{◌≡◌}
 use lib.ListN.{length}
-use Rattle.packets.proofs.Answers.{piece_refused, piece_fits, piece_done}
+use Rattle.packets.proofs.Answers.{piece_done}
 use Rattle.packets.proofs.Packets.piece.Goals as goal
 
 pub returns-in-Bytes : goal.returns-in-Bytes

@@ -1,17 +1,16 @@
 -- `packets::Packets::start` meets its promise: the strip check's faults, or the state of no bytes. Assumes nothing.
-use borrow.Author.Rules.{rules}
 use mathlib.Core.Path.{◌≡◌, refl}
 use mathlib.Core.List.{[]}
 use Prim.Native.Nat.{◌/◌, ◌%◌}
 use native.Mathlib.Nat.{zero-mod, zero-div}
-use Rattle.answer.proofs.Promised.{passed, stopped}
+use Rattle.answer.proofs.Promised.{passed}
 use Rattle.samples.specs.Promises.{strip_faults}
 use Rattle.packets.specs.declared.Plan.{Plan}
 use Rattle.packets.specs.State.{geometry, state_at}
 use Rattle.packets.specs.Promises.{plan, nowhere}
 use Rattle.packets.proofs.Bytewise.{tail_none, sums_none}
 use Rattle.packets.proofs.Behind.{sane_sound}
-use Rattle.packets.proofs.Answers.{begun-refused, begun-done}
+use Rattle.packets.proofs.Answers.{begun-done}
 use Rattle.packets.proofs.Packets.start.Goals as goal
 
 pub returns-in-Done : goal.returns-in-Done

@@ -1,13 +1,9 @@
 -- `packets::check::none` meets its contract: the bits so far are none exactly if the numbers so far are all 0. Assumes nothing.
-use borrow.Author.Rules.{rules}
-use native.Mathlib.Omega.{arith}
-use mathlib.Core.Path.{◌≡◌, refl, ◌∙◌}
+use mathlib.Core.Path.{◌≡◌}
 use Prim.Native.Nat.{◌-◌, ◌≤◌}
 use lib.Dec.{eqb}
 use lib.ListN.{length, get_or}
 use Rattle.laws.specs.Turns.{every}
-use Rattle.laws.proofs.Turns.{every_more}
-use Rattle.packets.proofs.Checking.{or_none}
 use Rattle.packets.proofs.check.none.Given as goal
 
 abbrev pub invariant-loop-i : goal.invariant-loop-i

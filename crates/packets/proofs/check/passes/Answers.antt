@@ -1,13 +1,10 @@
 -- `packets::check::passes` meets its contract: the tests are the check's, in its order. Assumes nothing.
-use borrow.Author.Rules.{rules}
-use borrow.Author.Tests.{lt-ltb, le-ltb, not-true, not-false}
-use native.Mathlib.Omega.{arith}
+use borrow.Author.Tests.{lt-ltb, le-ltb}
 use mathlib.Core.Path.{◌≡◌, sym, ◌∙◌}
 use mathlib.Core.Bool.{true}
 use Prim.Native.Nat.{◌/◌, ◌%◌}
 use Rattle.answer.specs.Outcome.{Sound}
-use Rattle.answer.proofs.Promised.{passed, stopped, sound-here}
-use Rattle.words.specs.Promises.{served}
+use Rattle.answer.proofs.Promised.{passed, stopped}
 use Rattle.samples.specs.Promises.{strip_faults}
 use Rattle.packets.specs.declared.Plan.{Plan}
 use Rattle.packets.specs.declared.Packets.{Packets}
@@ -15,7 +12,7 @@ use Rattle.packets.specs.State.{geometry, most, consistent}
 use Rattle.packets.specs.Promises.{plan, state}
 use Rattle.packets.proofs.Bytewise.{Sane}
 use Rattle.packets.proofs.Behind.{sane_sound, row-place}
-use Rattle.packets.proofs.Checking.{sound-clear, first-clear, begun-few}
+use Rattle.packets.proofs.Checking.{sound-clear, first-clear}
 use Rattle.packets.proofs.check.passes.Goals as goal
 
 pub returns-then-received-gt1073741824 : goal.returns-then-received-gt1073741824

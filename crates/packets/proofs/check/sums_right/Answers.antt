@@ -1,5 +1,4 @@
 -- `packets::check::sums_right` meets its contract: the sums that are there, and then none. Assumes nothing.
-use borrow.Author.Rules.{rules}
 use native.Mathlib.Omega.{arith}
 use Rattle.packets.proofs.Checking.{sums-all, sums_none}
 use Rattle.packets.proofs.check.sums_right.Goals as goal

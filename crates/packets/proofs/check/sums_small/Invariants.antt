@@ -1,13 +1,9 @@
 -- `packets::check::sums_small` meets its contract: the answer so far is the test of the sums so far. Assumes nothing.
-use borrow.Author.Rules.{rules}
-use native.Mathlib.Omega.{arith}
-use mathlib.Core.Path.{◌≡◌, refl}
+use mathlib.Core.Path.{◌≡◌}
 use Rattle.words.specs.Word.{modulus}
 use Prim.Native.Nat.{◌+◌, ◌-◌, ◌≤◌}
 use Rattle.laws.specs.Turns.{every}
-use Rattle.laws.proofs.Turns.{every_more}
 use Rattle.packets.specs.State.{sum_right}
-use Rattle.packets.proofs.Checking.{sum-there}
 use Rattle.packets.proofs.check.sums_small.Given as goal
 
 abbrev pub invariant-loop-i : goal.invariant-loop-i

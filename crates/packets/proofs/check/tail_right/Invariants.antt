@@ -1,12 +1,8 @@
 -- `packets::check::tail_right` meets its contract: the answer so far is the test of the bytes so far. Assumes nothing.
-use borrow.Author.Rules.{rules}
-use native.Mathlib.Omega.{arith}
-use mathlib.Core.Path.{◌≡◌, refl}
+use mathlib.Core.Path.{◌≡◌}
 use Prim.Native.Nat.{◌-◌, ◌≤◌}
 use Rattle.laws.specs.Turns.{every}
-use Rattle.laws.proofs.Turns.{every_more}
 use Rattle.packets.specs.State.{tail_right}
-use Rattle.packets.proofs.Checking.{tails-all}
 use Rattle.packets.proofs.check.tail_right.Given as goal
 
 abbrev pub invariant-loop-i : goal.invariant-loop-i

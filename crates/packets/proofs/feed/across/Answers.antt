@@ -1,12 +1,10 @@
 -- `packets::feed::across` meets its contract: the begun row, and from the next on. Assumes nothing.
-use borrow.Author.Rules.{rules}
 use native.Mathlib.Omega.{arith}
 use native.Mathlib.Nat.{mod-lt}
 use Prim.Native.Nat.{◌%◌, ◌≤◌, ◌<◌}
 use lib.ListN.{length}
-use Rattle.answer.proofs.Filling.{halfway}
 use Rattle.packets.proofs.Wordwise.{is, words-room}
-use Rattle.packets.proofs.Joins.{same-words_out, both_words-fed}
+use Rattle.packets.proofs.Joins.{both_words-fed}
 use Rattle.packets.proofs.Rowwise.{left, left-words, row_end, next-rows}
 use Rattle.packets.proofs.feed.across.Goals as goal
 

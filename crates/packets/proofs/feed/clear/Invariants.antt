@@ -1,10 +1,7 @@
 -- `packets::feed::clear` meets its contract: as far as the loop came, all is 0. Assumes nothing.
-use borrow.Author.Rules.{rules}
-use native.Mathlib.Omega.{arith}
-use mathlib.Core.Path.{refl}
 use Prim.Native.Nat.{◌-◌}
 use lib.ListN.{length}
-use Rattle.laws.proofs.Lists.{FilledTo, filled_none, filled_next, filled_end}
+use Rattle.laws.proofs.Lists.{FilledTo}
 use Rattle.packets.proofs.feed.clear.Given as goal
 
 abbrev pub invariant-loop-i : goal.invariant-loop-i

@@ -1,11 +1,9 @@
 -- `packets::feed::feed` meets its contract: the word stays unfinished, or it is finished and the rest comes. Assumes nothing.
-use borrow.Author.Rules.{rules}
 use native.Mathlib.Omega.{arith}
-use Prim.Native.Nat.{◌+◌, ◌≤◌}
+use Prim.Native.Nat.{◌≤◌}
 use lib.ListN.{length}
-use Rattle.answer.proofs.Filling.{halfway}
 use Rattle.packets.proofs.Wordstart.{served-width}
-use Rattle.packets.proofs.Finish.{fill_inside, done_small, hold_fits, short-fed, done-room, finishes, rest_room, rest_from, all-fed}
+use Rattle.packets.proofs.Finish.{fill_inside, hold_fits, short-fed, done-room, finishes, rest_from, all-fed}
 use Rattle.packets.proofs.feed.feed.Goals as goal
 
 pub past-fill-requires : goal.past-fill-requires

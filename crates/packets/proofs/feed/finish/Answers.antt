@@ -1,5 +1,4 @@
 -- `packets::feed::finish` meets its contract: nothing was cut, or the word is put together, converted and forgotten. Assumes nothing.
-use borrow.Author.Rules.{rules}
 use native.Mathlib.Omega.{arith}
 use mathlib.Core.Path.{◌≡◌, sym, subst}
 use mathlib.Core.List.{List}
@@ -8,7 +7,7 @@ use lib.ListN.{length}
 use Rattle.packets.specs.Promises.{no_tail}
 use Rattle.packets.specs.Steps.{BytesFed}
 use Rattle.packets.proofs.Tails.{overwritten}
-use Rattle.packets.proofs.Finish.{uncut_fed, cut_fits, back_inside, tail_long, tail_room, one_word, word-fed}
+use Rattle.packets.proofs.Finish.{uncut_fed, cut_fits, tail_long, tail_room, one_word, word-fed}
 use Rattle.packets.proofs.feed.finish.Goals as goal
 
 pub returns-then-fill-eq0 : goal.returns-then-fill-eq0

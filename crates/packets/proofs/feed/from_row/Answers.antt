@@ -1,12 +1,9 @@
 -- `packets::feed::from_row` meets its contract: whole rows, and the words of the next. Assumes nothing.
-use borrow.Author.Rules.{rules}
 use native.Mathlib.Omega.{arith}
-use native.Mathlib.Nat.{mod-le}
 use Prim.Native.Nat.{◌≤◌}
 use lib.ListN.{length}
-use Rattle.answer.proofs.Filling.{halfway}
 use Rattle.packets.proofs.Wordwise.{is, words-room}
-use Rattle.packets.proofs.Joins.{same-words_out, both_words-fed}
+use Rattle.packets.proofs.Joins.{both_words-fed}
 use Rattle.packets.proofs.Rowwise.{whole, whole-inside, whole_words, rows-first, rest_of_rows}
 use Rattle.packets.proofs.feed.from_row.Goals as goal
 

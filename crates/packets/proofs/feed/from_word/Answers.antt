@@ -1,6 +1,5 @@
 -- `packets::feed::from_word` meets its contract: whole words, and the bytes of a begun word. Assumes nothing.
-use borrow.Author.Rules.{rules}
-use Rattle.packets.proofs.Wordstart.{served-width, past_inside, end_room, words-first, rest_fits, rest_held}
+use Rattle.packets.proofs.Wordstart.{served-width, end_room, words-first, rest_fits, rest_held}
 use Rattle.packets.proofs.feed.from_word.Goals as goal
 
 pub past-requires : goal.past-requires

@@ -1,12 +1,8 @@
 -- `packets::feed::hold` meets its contract: the bytes so far are stored behind the others. Assumes nothing.
-use borrow.Author.Rules.{rules}
-use native.Mathlib.Omega.{arith}
-use native.Mathlib.Numerals.{add-one}
-use mathlib.Core.Path.{◌≡◌, refl, ap, ◌∙◌}
-use Prim.Native.Nat.{◌+◌, ◌-◌, ◌≤◌, ◌<◌}
+use mathlib.Core.Path.{◌≡◌}
+use Prim.Native.Nat.{◌-◌, ◌≤◌}
 use lib.ListN.{length, get_or}
 use Rattle.answer.specs.Table.{stores}
-use Rattle.answer.proofs.Filling.{length-stores}
 use Rattle.packets.proofs.feed.hold.Given as goal
 
 abbrev pub invariant-loop-i : goal.invariant-loop-i

@@ -1,5 +1,4 @@
 -- `packets::feed::in_row` meets its contract: the words go through `resume_row`, and at the row's end the sums begin anew. Assumes nothing.
-use borrow.Author.Rules.{rules}
 use native.Mathlib.Omega.{arith}
 use Prim.Native.Nat.{◌/◌, ◌%◌}
 use Rattle.rows.specs.Resume.{RowResumed}

@@ -1,10 +1,8 @@
 -- `packets::feed::predicted` meets its contract: within the row, or up to its end and past it. Assumes nothing.
-use borrow.Author.Rules.{rules}
 use native.Mathlib.Omega.{arith}
 use native.Mathlib.Nat.{mod-lt}
 use Prim.Native.Nat.{◌%◌, ◌<◌}
 use Rattle.packets.proofs.Wordwise.{is}
-use Rattle.packets.proofs.Rowwise.{within-row}
 use Rattle.packets.proofs.feed.predicted.Goals as goal
 
 pub nonzero_rem-place : goal.nonzero_rem-place

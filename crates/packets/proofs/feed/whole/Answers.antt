@@ -1,6 +1,5 @@
 -- `packets::feed::whole` meets its contract: each arm divides by its width. Assumes nothing.
-use mathlib.Core.Path.{◌≡◌, sym}
-use native.Mathlib.Nat.{div-one}
+use mathlib.Core.Path.{◌≡◌}
 use Rattle.words.proofs.Served.{served-wide, served-narrow}
 use Rattle.packets.proofs.feed.whole.Goals as goal
 

@@ -1,5 +1,4 @@
 -- `packets::feed::word` meets its contract: with prediction a word of its row, without it in the asked order. Assumes nothing.
-use borrow.Author.Rules.{rules}
 use native.Mathlib.Omega.{arith}
 use Rattle.words.specs.Word.{Bytes}
 use Rattle.packets.specs.Steps.{Predicted}

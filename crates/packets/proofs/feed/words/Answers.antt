@@ -1,5 +1,4 @@
 -- `packets::feed::words` meets its contract: with prediction row by row, without it in the asked order. Assumes nothing.
-use borrow.Author.Rules.{rules}
 use native.Mathlib.Omega.{arith}
 use Rattle.words.specs.Word.{Bytes}
 use Rattle.packets.proofs.Wordwise.{plain-fed}

@@ -1,5 +1,4 @@
 -- `rendering::gather::gather` meets its contract: the row's laws are in proofs/Rowwise.antt. Assumes nothing.
-use borrow.Author.Rules.{rules}
 use native.Mathlib.Omega.{arith}
 use Prim.Native.Nat.{◌+◌, ◌*◌, ◌≤◌}
 use lib.ListN.{length}

@@ -1,8 +1,6 @@
 -- `rendering::gather::pixel1` meets its contract: the invariant and its laws are in proofs/Gathering.antt. Assumes nothing.
-use borrow.Author.Rules.{rules}
-use native.Mathlib.Omega.{arith}
 use Prim.Native.Nat.{◌-◌}
-use Rattle.rendering.proofs.Gathering.{GatheredChannels, gathered_no_channel, ChannelRoom, channel-room, channel-one, channels_ended}
+use Rattle.rendering.proofs.Gathering.{GatheredChannels}
 use Rattle.rendering.proofs.gather.pixel1.Given as goal
 
 abbrev pub invariant-loop-c : goal.invariant-loop-c

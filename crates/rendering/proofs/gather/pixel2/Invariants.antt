@@ -1,11 +1,7 @@
 -- `rendering::gather::pixel2` meets its contract: the invariant and its laws are in proofs/Gathering.antt. Assumes nothing.
-use borrow.Author.Rules.{rules}
-use native.Mathlib.Omega.{arith}
-use Prim.Native.Nat.{◌+◌, ◌-◌, ◌*◌, ◌≤◌}
+use Prim.Native.Nat.{◌+◌, ◌-◌, ◌*◌}
 use mathlib.Core.Path.{◌≡◌}
-use lib.ListN.{length-set}
-use Rattle.pixels.proofs.HighFirst.{high-few}
-use Rattle.rendering.proofs.Gathering.{GatheredChannels, gathered_no_channel, ChannelRoom, channel-room, channel_two, channels_ended}
+use Rattle.rendering.proofs.Gathering.{GatheredChannels}
 use Rattle.rendering.proofs.gather.pixel2.Given as goal
 
 abbrev pub invariant-loop-c : goal.invariant-loop-c

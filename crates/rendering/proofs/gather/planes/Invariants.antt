@@ -1,9 +1,7 @@
 -- `rendering::gather::planes` meets its contract: the invariant and its laws are in proofs/Gathering.antt. Assumes nothing.
-use borrow.Author.Rules.{rules}
-use native.Mathlib.Omega.{arith}
-use Prim.Native.Nat.{◌-◌, ◌<◌}
+use Prim.Native.Nat.{◌-◌}
 use lib.ListN.{length}
-use Rattle.rendering.proofs.Gathering.{GatheredPixels, gathered_no_pixel, stride_some, pixel_room, pixel_inside, pixel_fits, pixel_next, gathered_all}
+use Rattle.rendering.proofs.Gathering.{GatheredPixels}
 use Rattle.rendering.proofs.gather.planes.Given as goal
 
 abbrev pub invariant-loop-at : goal.invariant-loop-at

@@ -1,10 +1,9 @@
 -- `rendering::plain::finish` meets its contract: the laws are in proofs/Finishing.antt. Assumes nothing.
-use borrow.Author.Rules.{rules}
 use borrow.Author.Tests.{eq-eqb, ne_eqb}
 use mathlib.Core.Path.{refl}
 use mathlib.Core.Bool.{true, false}
 use native.Mathlib.Omega.{arith}
-use Rattle.rendering.proofs.Finishing.{straight_finished, inverted_finished, same_finished}
+use Rattle.rendering.proofs.Finishing.{straight_finished, same_finished}
 use Rattle.rendering.proofs.plain.finish.Goals as goal
 
 pub returns-then-l-eq1 : goal.returns-then-l-eq1

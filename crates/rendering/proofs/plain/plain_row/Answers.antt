@@ -1,5 +1,4 @@
 -- `rendering::plain::plain_row` meets its contract. Assumes nothing.
-use borrow.Author.Rules.{rules}
 use Rattle.rendering.proofs.Finishing.{whole_gathered, plain_rendered}
 use Rattle.rendering.proofs.plain.plain_row.Goals as goal
 

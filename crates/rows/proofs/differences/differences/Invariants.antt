@@ -1,10 +1,8 @@
 -- `rows::differences::differences` meets its contract, at every width: what is stored up to `at` are the differences. Assumes nothing.
-use Rattle.std.proofs.Common.{ℕ, ◌+◌, ◌-◌, ◌*◌, ◌≤◌, true, length, ap, ◌∙◌, arith, rules}
-use Rattle.words.specs.Word.{Bytes, word_at, minus}
-use Rattle.words.proofs.Words.{word_below}
+use Rattle.std.proofs.Common.{◌-◌, ◌*◌, ◌≤◌, true, length}
 use Rattle.samples.specs.Sample.{difference}
 use Rattle.rows.specs.Row.{one_row}
-use Rattle.rows.proofs.Loops.{Upto, led_upto, trail_room, difference_turned, ended}
+use Rattle.rows.proofs.Loops.{Upto}
 use Rattle.rows.proofs.differences.differences.Given as goal
 
 abbrev pub invariant-loop-at : goal.invariant-loop-at

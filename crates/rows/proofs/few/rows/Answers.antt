@@ -1,8 +1,6 @@
 -- `rows::few::rows` meets its contract: the invariant and its laws are in proofs/Rows.antt. Assumes nothing.
-use Rattle.std.proofs.Common.{◌-◌, ◌<◌, length, arith, rules}
-use Rattle.samples.specs.Sample.{strip, stored_at}
-use Rattle.rows.specs.Row.{resumed_in}
-use Rattle.rows.proofs.Rows.{RowsUpto, rows_none, row_room, row_free, few_part, row-resumed, row_turned, rows_ended}
+use Rattle.std.proofs.Common.{◌<◌, length, arith}
+use Rattle.rows.proofs.Rows.{row_room, row-resumed, row_turned}
 use Rattle.rows.proofs.few.rows.Goals as goal
 
 pub slice_bounds-row-end : goal.slice_bounds-row-end

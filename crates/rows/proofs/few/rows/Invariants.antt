@@ -1,8 +1,8 @@
 -- `rows::few::rows` meets its contract: the invariant and its laws are in proofs/Rows.antt. Assumes nothing.
-use Rattle.std.proofs.Common.{◌-◌, ◌<◌, length, arith, rules}
+use Rattle.std.proofs.Common.{◌-◌, length}
 use Rattle.samples.specs.Sample.{strip, stored_at}
 use Rattle.rows.specs.Row.{resumed_in}
-use Rattle.rows.proofs.Rows.{RowsUpto, rows_none, row_room, row_free, few_part, row-resumed, row_turned, rows_ended}
+use Rattle.rows.proofs.Rows.{RowsUpto}
 use Rattle.rows.proofs.few.rows.Given as goal
 
 abbrev pub invariant-loop-at : goal.invariant-loop-at

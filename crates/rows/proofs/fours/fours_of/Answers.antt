@@ -1,10 +1,9 @@
 -- `rows::fours::fours_of` meets its contract, at every width: what is stored up to `at` are the samples, and each local is its channel's sum so far.
 -- Assumes nothing.
-use Rattle.std.proofs.Common.{◌≡◌, ◌+◌, ◌-◌, ◌*◌, ◌/◌, ◌%◌, ◌≤◌, length, ◌∙◌, arith, rules}
+use Rattle.std.proofs.Common.{◌≡◌, ◌+◌, ◌*◌, ◌≤◌, length, ◌∙◌, arith}
 use native.Mathlib.Nat.{zero-mod, add-mod_right}
 use Rattle.laws.proofs.Groups.{group_room}
-use Rattle.rows.specs.Row.{resumed}
-use Rattle.rows.proofs.Loops.{Upto, upto_none, carried, carried_start, next-sum, ended}
+use Rattle.rows.proofs.Loops.{upto_none, carried_start, next-sum}
 use Rattle.rows.proofs.fours.fours_of.Goals as goal
 
 pub loop-at-init : goal.loop-at-init

@@ -1,6 +1,5 @@
 -- `rows::resume::from_pixel` meets its contract: whole pixels, and the words that are left. Assumes nothing.
-use Rattle.std.proofs.Common.{ℕ, ◌-◌, ◌*◌, ◌%◌, length, arith, rules}
-use native.Mathlib.Nat.{mod-le}
+use Rattle.std.proofs.Common.{ℕ, ◌-◌, ◌*◌, ◌%◌, length, arith}
 use Rattle.rows.proofs.Joining.{front-pixels, whole-inside, whole_words, whole-pixels, pixel_some, pixel_fits, back-run, both_ran}
 use Rattle.rows.proofs.resume.from_pixel.Goals as goal
 

@@ -1,6 +1,6 @@
 -- `rows::resume::held` meets its contract: the invariant and its laws are in proofs/Running.antt. Assumes nothing.
-use Rattle.std.proofs.Common.{◌+◌, ◌-◌, ◌<◌, ◌≤◌, length, arith, rules}
-use Rattle.rows.proofs.Running.{HeldTo, held_none, held-room, held-inside, held_turned, held_ended}
+use Rattle.std.proofs.Common.{◌-◌}
+use Rattle.rows.proofs.Running.{HeldTo}
 use Rattle.rows.proofs.resume.held.Given as goal
 
 abbrev pub invariant-loop-channel : goal.invariant-loop-channel

@@ -1,5 +1,5 @@
 -- `rows::resume::leading` meets its contract. Assumes nothing.
-use Rattle.std.proofs.Common.{arith, rules, le-ltb, lt-ltb, eq-eqb, ne_eqb}
+use Rattle.std.proofs.Common.{arith}
 use Rattle.rows.proofs.Joining.{left-fits}
 use Rattle.rows.proofs.resume.leading.Goals as goal
 

@@ -1,7 +1,7 @@
 -- `rows::resume::pixels` meets its contract: none, more than four channels word by word, or at most four and the last pixel read back.
 -- Assumes nothing.
-use Rattle.std.proofs.Common.{◌*◌, ◌<◌, ◌≤◌, length, arith, rules}
-use Rattle.rows.proofs.Running.{few-rows, none_ran, pixel_room, new_long, last_fits, pixels_ran}
+use Rattle.std.proofs.Common.{◌<◌, length, arith}
+use Rattle.rows.proofs.Running.{pixels_ran}
 use Rattle.rows.proofs.resume.pixels.Goals as goal
 
 pub returns : goal.returns

@@ -1,7 +1,6 @@
 -- `rows::resume::run` meets its contract: up to a pixel's start, and from there on. Assumes nothing.
-use Rattle.std.proofs.Common.{◌≡◌, ◌%◌, ◌≤◌, length, refl, arith, rules}
-use Rattle.answer.proofs.Filling.{halfway}
-use Rattle.rows.proofs.Joining.{lead_inside, lead_words, lead_on, front-run, back-run, out_long, both_ran}
+use Rattle.std.proofs.Common.{◌≡◌, ◌%◌, ◌≤◌, length, refl, arith}
+use Rattle.rows.proofs.Joining.{lead_inside, lead_words, lead_on, front-run, back-run, both_ran}
 use Rattle.rows.proofs.resume.run.Goals as goal
 
 pub words-requires : goal.words-requires

@@ -1,7 +1,6 @@
 -- `rows::resume::words` meets its contract: the invariant and its laws are in proofs/Running.antt. Assumes nothing.
-use Rattle.std.proofs.Common.{◌+◌, ◌-◌, ◌<◌, ◌≤◌, length, arith}
-use Rattle.words.proofs.Served.{served-some}
-use Rattle.rows.proofs.Running.{Running, running_none, channel_below, channel-held, sums_same, run_room, run_turned, run_ended}
+use Rattle.std.proofs.Common.{◌-◌, length}
+use Rattle.rows.proofs.Running.{Running}
 use Rattle.rows.proofs.resume.words.Given as goal
 
 abbrev pub invariant-loop-at : goal.invariant-loop-at

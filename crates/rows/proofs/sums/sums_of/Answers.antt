@@ -1,8 +1,7 @@
 -- `rows::sums::sums_of` meets its contract, at every width: what is stored up to `at` are the samples, and the local is the sum so far.
 -- Assumes nothing.
-use Rattle.std.proofs.Common.{◌≡◌, ◌+◌, ◌-◌, ◌/◌, ◌≤◌, length, arith, rules}
-use Rattle.rows.specs.Row.{resumed}
-use Rattle.rows.proofs.Loops.{Upto, upto_none, carried, carried_start, sum_room, next-sum, ended}
+use Rattle.std.proofs.Common.{◌+◌, ◌≤◌, length, arith}
+use Rattle.rows.proofs.Loops.{upto_none, carried_start, sum_room, next-sum}
 use Rattle.rows.proofs.sums.sums_of.Goals as goal
 
 pub loop-at-init : goal.loop-at-init

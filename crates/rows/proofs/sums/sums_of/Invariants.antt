@@ -1,8 +1,8 @@
 -- `rows::sums::sums_of` meets its contract, at every width: what is stored up to `at` are the samples, and the local is the sum so far.
 -- Assumes nothing.
-use Rattle.std.proofs.Common.{◌≡◌, ◌+◌, ◌-◌, ◌/◌, ◌≤◌, length, arith, rules}
+use Rattle.std.proofs.Common.{◌≡◌, ◌-◌, ◌/◌, length}
 use Rattle.rows.specs.Row.{resumed}
-use Rattle.rows.proofs.Loops.{Upto, upto_none, carried, carried_start, sum_room, next-sum, ended}
+use Rattle.rows.proofs.Loops.{Upto, carried}
 use Rattle.rows.proofs.sums.sums_of.Given as goal
 
 abbrev pub invariant-loop-at : goal.invariant-loop-at

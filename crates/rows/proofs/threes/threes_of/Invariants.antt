@@ -1,10 +1,8 @@
 -- `rows::threes::threes_of` meets its contract, at every width: what is stored up to `at` are the samples, and each local is its channel's sum so far.
 -- Assumes nothing.
-use Rattle.std.proofs.Common.{◌≡◌, ◌+◌, ◌-◌, ◌*◌, ◌/◌, ◌%◌, ◌≤◌, length, ◌∙◌, arith, rules}
-use native.Mathlib.Nat.{zero-mod, add-mod_right}
-use Rattle.laws.proofs.Groups.{group_room}
+use Rattle.std.proofs.Common.{◌≡◌, ◌+◌, ◌-◌, ◌*◌, ◌/◌, ◌%◌, length}
 use Rattle.rows.specs.Row.{resumed}
-use Rattle.rows.proofs.Loops.{Upto, upto_none, carried, carried_start, next-sum, ended}
+use Rattle.rows.proofs.Loops.{Upto, carried}
 use Rattle.rows.proofs.threes.threes_of.Given as goal
 
 abbrev pub invariant-loop-at : goal.invariant-loop-at

@@ -1,9 +1,8 @@
 -- `rows::trails::trails` meets its contract, at every width: what is stored up to `at` are the samples. Assumes nothing.
-use Rattle.std.proofs.Common.{◌+◌, ◌-◌, ◌*◌, ◌≤◌, true, length, ap, ◌∙◌, arith, rules}
-use Rattle.words.specs.Word.{word_at, plus}
+use Rattle.std.proofs.Common.{◌-◌, ◌*◌, ◌≤◌, true, length}
 use Rattle.samples.specs.Sample.{sample}
 use Rattle.rows.specs.Row.{one_row}
-use Rattle.rows.proofs.Loops.{Upto, led_upto, pixel_wide, trail_room, trail_turned, ended}
+use Rattle.rows.proofs.Loops.{Upto}
 use Rattle.rows.proofs.trails.trails.Given as goal
 
 abbrev pub invariant-loop-at : goal.invariant-loop-at

@@ -1,5 +1,5 @@
 -- `rows::word::add` meets its contract: a sum modulo 2^64 is, modulo 256^width, the sum. Assumes nothing.
-use Rattle.std.proofs.Common.{◌≡◌, arith, rules}
+use Rattle.std.proofs.Common.{◌≡◌, arith}
 use Rattle.words.proofs.Served.{served-wide, served-narrow}
 use Rattle.rows.proofs.word.add.Goals as goal
 

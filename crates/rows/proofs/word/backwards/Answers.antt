@@ -1,5 +1,5 @@
 -- `rows::word::backwards` meets its contract: each width's arm has that width's low bytes backwards. Assumes nothing.
-use Rattle.std.proofs.Common.{◌≡◌, ◌∙◌, arith, rules}
+use Rattle.std.proofs.Common.{◌≡◌, ◌∙◌, arith}
 use Rattle.words.proofs.Served.{served-wide, served-narrow}
 use Rattle.words.proofs.Puts.{backwards_rest}
 use Rattle.rows.proofs.word.backwards.Goals as goal

@@ -1,7 +1,7 @@
 -- `rows::word::get` meets its contract: the word as it is, or its bytes backwards. Assumes nothing.
-use Rattle.std.proofs.Common.{arith, rules}
+use Rattle.std.proofs.Common.{arith}
 use Rattle.words.specs.Word.{Bytes}
-use Rattle.words.proofs.Words.{word_straight, word-other}
+use Rattle.words.proofs.Words.{word-other}
 use Rattle.rows.proofs.word.get.Goals as goal
 
 pub returns-else-le : goal.returns-else-le

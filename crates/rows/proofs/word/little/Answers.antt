@@ -1,7 +1,6 @@
 -- `rows::word::little` meets its contract: each width's arm reads that width's word. Assumes nothing.
-use Rattle.std.proofs.Common.{◌≡◌, true, sym, arith, rules}
+use Rattle.std.proofs.Common.{◌≡◌, arith}
 use Rattle.words.proofs.Served.{served-wide, served-narrow}
-use Rattle.words.proofs.Words.{word-one}
 use Rattle.rows.proofs.word.little.Goals as goal
 
 pub little8-requires : goal.little8-requires

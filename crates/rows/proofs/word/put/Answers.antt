@@ -1,6 +1,5 @@
 -- `rows::word::put` meets its contract: the word stored as it is, or its bytes backwards, of three by themselves. Assumes nothing.
-use Rattle.std.proofs.Common.{false, rules}
-use Rattle.words.proofs.Puts.{put_rest, put_backwards}
+use Rattle.words.proofs.Puts.{put_backwards}
 use Rattle.rows.proofs.word.put.Goals as goal
 
 pub returns-else-width-eq3 : goal.returns-else-width-eq3

@@ -1,5 +1,5 @@
 -- `rows::word::store` meets its contract: each width's arm stores that width's low bytes. Assumes nothing.
-use Rattle.std.proofs.Common.{◌≡◌, true, arith, rules}
+use Rattle.std.proofs.Common.{◌≡◌, true, arith}
 use Rattle.words.proofs.Served.{served-wide, served-narrow}
 use Rattle.words.proofs.Puts.{put_rest, put_halves}
 use Rattle.rows.proofs.word.store.Goals as goal

@@ -1,5 +1,5 @@
 -- `rows::word::sub` meets its contract: a difference modulo 2^64 is, modulo 256^width, the difference. Assumes nothing.
-use Rattle.std.proofs.Common.{◌≡◌, arith, rules}
+use Rattle.std.proofs.Common.{◌≡◌, arith}
 use Rattle.words.proofs.Served.{served-wide, served-narrow}
 use Rattle.rows.proofs.word.sub.Goals as goal
 

@@ -1,6 +1,5 @@
 -- `tags::extras::check_extra` meets its contract: 1 or 2 where it is there, and the samples that it makes. Assumes nothing.
 use Rattle.tags.specs.Tags.{extra_faults}
-use borrow.Author.Rules.{rules}
 use Rattle.tags.proofs.extras.check_extra.Goals as goal
 
 pub returns : goal.returns

@@ -1,6 +1,5 @@
 -- `tags::extras::check_extras` meets its contract: predictor, map, extra sample, in this order. Assumes nothing.
 use Rattle.tags.specs.Tags.{extras_faults}
-use borrow.Author.Rules.{rules}
 use Rattle.tags.proofs.extras.check_extras.Goals as goal
 
 pub returns : goal.returns

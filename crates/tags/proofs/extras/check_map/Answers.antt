@@ -1,7 +1,5 @@
 -- `tags::extras::check_map` meets its contract: with a palette alone. Assumes nothing.
-use Rattle.answer.proofs.Promised.{passed}
 use Rattle.tags.specs.Tags.{map_faults}
-use borrow.Author.Rules.{rules}
 use mathlib.Core.Path.{◌∙◌, refl, sym}
 use Rattle.tags.proofs.extras.check_map.Goals as goal
 

@@ -1,6 +1,5 @@
 -- `tags::extras::check_predictor` meets its contract: 1, or 2 from 8 bits up. Assumes nothing.
 use Rattle.tags.specs.Tags.{predictor_faults}
-use borrow.Author.Rules.{rules}
 use Rattle.tags.proofs.extras.check_predictor.Goals as goal
 
 pub returns : goal.returns

@@ -2,14 +2,11 @@
 use Prim.Native.Nat.{◌-◌, ◌≤◌, ℕ}
 use Rattle.entries.specs.Entries.{value_of}
 use Rattle.entries.specs.declared.Field.{Field}
-use Rattle.laws.proofs.Turns.{every_more}
 use Rattle.laws.specs.Turns.{every}
-use borrow.Author.Rules.{rules}
 use lib.Dec.{eqb}
 use mathlib.Core.Bool.{Bool}
 use mathlib.Core.List.{List}
-use mathlib.Core.Path.{◌≡◌, refl}
-use native.Mathlib.Omega.{arith}
+use mathlib.Core.Path.{◌≡◌}
 use Rattle.tags.proofs.shape.all_equal.Given as goal
 
 abbrev same-as-first : List ℕ → Bool → Field → ℕ → Bool

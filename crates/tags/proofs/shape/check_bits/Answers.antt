@@ -1,8 +1,6 @@
 -- `tags::shape::check_bits` meets its contract: the values once they are there. Assumes nothing.
 use Rattle.answer.proofs.Promised.{step-on, step-refused}
-use Rattle.laws.proofs.Says.{equal}
-use Rattle.tags.specs.Tags.{bits_faults, depth}
-use borrow.Author.Rules.{rules}
+use Rattle.tags.specs.Tags.{bits_faults}
 use Rattle.tags.proofs.shape.check_bits.Goals as goal
 
 pub returns-in-Refused : goal.returns-in-Refused

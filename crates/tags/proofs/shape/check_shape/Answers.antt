@@ -1,6 +1,5 @@
 -- `tags::shape::check_shape` meets its contract: tag by tag, ascending. Assumes nothing.
 use Rattle.tags.specs.Tags.{shape_faults}
-use borrow.Author.Rules.{rules}
 use Rattle.tags.proofs.shape.check_shape.Goals as goal
 
 pub returns : goal.returns

@@ -1,7 +1,6 @@
 -- `tags::shape::depth_of` meets its contract: the first value, or the default. Assumes nothing.
 use Rattle.laws.proofs.Picks.{not_picked, picked}
 use Rattle.tags.specs.Tags.{depth_of}
-use borrow.Author.Rules.{rules}
 use mathlib.Core.Path.{◌∙◌, sym}
 use Rattle.tags.proofs.shape.depth_of.Goals as goal
 

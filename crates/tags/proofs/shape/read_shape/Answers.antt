@@ -2,7 +2,6 @@
 use Rattle.entries.specs.Entries.{field_of}
 use Rattle.tags.proofs.Reading.{next_field}
 use Rattle.tags.specs.Tags.{shape_of}
-use borrow.Author.Rules.{rules}
 use mathlib.Core.Path.{◌≡◌}
 use native.Mathlib.Omega.{arith}
 use Rattle.tags.proofs.shape.read_shape.Goals as goal

@@ -1,6 +1,5 @@
 -- `tags::split::check_planar` meets its contract: 1 or 2, and as many strips as the rows need. Assumes nothing.
 use Rattle.tags.specs.Tags.{planar_faults}
-use borrow.Author.Rules.{rules}
 use Rattle.tags.proofs.split.check_planar.Goals as goal
 
 pub returns : goal.returns

@@ -1,6 +1,5 @@
 -- `tags::split::check_samples` meets its contract: those of 258, and those that 262 has or one more. Assumes nothing.
 use Rattle.tags.specs.Tags.{samples_faults}
-use borrow.Author.Rules.{rules}
 use Rattle.tags.proofs.split.check_samples.Goals as goal
 
 pub returns : goal.returns

@@ -1,6 +1,5 @@
 -- `tags::split::check_split` meets its contract: tag by tag, ascending. Assumes nothing.
 use Rattle.tags.specs.Tags.{split_faults}
-use borrow.Author.Rules.{rules}
 use Rattle.tags.proofs.split.check_split.Goals as goal
 
 pub returns : goal.returns

@@ -3,7 +3,6 @@ use Rattle.entries.proofs.Seeking.{field_next}
 use Rattle.entries.specs.Entries.{field_of}
 use Rattle.tags.proofs.Reading.{next_field}
 use Rattle.tags.specs.Tags.{split_of}
-use borrow.Author.Rules.{rules}
 use mathlib.Core.Path.{◌∙◌, ◌≡◌}
 use native.Mathlib.Omega.{arith}
 use Rattle.tags.proofs.split.read_split.Goals as goal

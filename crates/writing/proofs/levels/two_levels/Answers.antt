@@ -1,11 +1,7 @@
 -- `writing::levels::two_levels` meets its contract: the invariant and its laws are in proofs/Search.antt. Assumes nothing.
-use borrow.Author.Rules.{rules}
-use borrow.Author.Tests.{not-true, not-false}
-use native.Mathlib.Omega.{arith}
-use native.Mathlib.Nat.{zero-mul}
-use Prim.Native.Nat.{◌-◌, ◌*◌, ◌≤◌, ◌<◌}
-use mathlib.Core.Path.{refl, sym, ◌∙◌}
-use Rattle.writing.proofs.Search.{Passed, byte_inside, level_passed, row-passed, rows-passed, level_missed}
+use Prim.Native.Nat.{◌*◌, ◌<◌}
+use mathlib.Core.Path.{sym, ◌∙◌}
+use Rattle.writing.proofs.Search.{byte_inside, level_missed}
 use Rattle.writing.proofs.levels.two_levels.Goals as goal
 
 pub returns-then-not-is_level : goal.returns-then-not-is_level

@@ -1,11 +1,6 @@
 -- `writing::levels::two_levels` meets its contract: the invariant and its laws are in proofs/Search.antt. Assumes nothing.
-use borrow.Author.Rules.{rules}
-use borrow.Author.Tests.{not-true, not-false}
-use native.Mathlib.Omega.{arith}
-use native.Mathlib.Nat.{zero-mul}
-use Prim.Native.Nat.{◌-◌, ◌*◌, ◌≤◌, ◌<◌}
-use mathlib.Core.Path.{refl, sym, ◌∙◌}
-use Rattle.writing.proofs.Search.{Passed, byte_inside, level_passed, row-passed, rows-passed, level_missed}
+use Prim.Native.Nat.{◌-◌, ◌≤◌}
+use Rattle.writing.proofs.Search.{Passed}
 use Rattle.writing.proofs.levels.two_levels.Given as goal
 
 abbrev pub invariant-loop-x : goal.invariant-loop-x

@@ -1,7 +1,6 @@
 -- `writing::one_plane::flip_row` meets its contract: the laws are in proofs/Plain.antt. Assumes nothing.
-use borrow.Author.Rules.{rules}
 use native.Mathlib.Omega.{arith}
-use Rattle.writing.proofs.Plain.{over_none, over_all, over_colours}
+use Rattle.writing.proofs.Plain.{over_none, over_colours}
 use Rattle.writing.proofs.one_plane.flip_row.Goals as goal
 
 pub returns-else-l-eq0 : goal.returns-else-l-eq0

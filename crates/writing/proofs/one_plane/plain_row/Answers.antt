@@ -1,8 +1,7 @@
 -- `writing::one_plane::plain_row` meets its contract: the laws are in proofs/Plain.antt. Assumes nothing.
-use borrow.Author.Rules.{rules}
 use native.Mathlib.Omega.{arith}
 use Rattle.words.specs.Word.{Bytes}
-use Rattle.writing.proofs.Plain.{reordered_whole, plain_done}
+use Rattle.writing.proofs.Plain.{plain_done}
 use Rattle.writing.proofs.one_plane.plain_row.Goals as goal
 
 pub returns : goal.returns

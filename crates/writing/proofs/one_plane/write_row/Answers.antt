@@ -1,7 +1,6 @@
 -- `writing::one_plane::write_row` meets its contract: the laws are in proofs/Rowwise.antt. Assumes nothing.
-use borrow.Author.Rules.{rules}
 use native.Mathlib.Omega.{arith}
-use Rattle.writing.proofs.Rowwise.{row-packed, plain_fits, row_plain}
+use Rattle.writing.proofs.Rowwise.{row-packed, plain_fits}
 use Rattle.writing.proofs.one_plane.write_row.Goals as goal
 
 pub plain_row-requires : goal.plain_row-requires

@@ -1,10 +1,9 @@
 -- `writing::one_plane::write_rows` meets its contract: the invariant and its laws are in proofs/Rowwise.antt. Assumes nothing.
-use borrow.Author.Rules.{rules}
 use native.Mathlib.Omega.{arith}
-use Prim.Native.Nat.{◌*◌, ◌-◌, ◌≤◌, ◌<◌}
+use Prim.Native.Nat.{◌*◌, ◌≤◌, ◌<◌}
 use Rattle.layout.specs.Layout.{side_limit}
 use Rattle.pixels.specs.Render.{row_bytes, plane_row}
-use Rattle.writing.proofs.Rowwise.{WrittenRows, rows_few, written_none, written-room, row_fits, written_next, written_all}
+use Rattle.writing.proofs.Rowwise.{rows_few, written-room, written_next, written_all}
 use Rattle.writing.proofs.one_plane.write_rows.Goals as goal
 
 pub overflow_mul-read : goal.overflow_mul-read

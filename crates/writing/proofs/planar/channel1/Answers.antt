@@ -1,9 +1,6 @@
 -- `writing::planar::channel1` meets its contract: the invariant and its laws are in proofs/Channels.antt. Assumes nothing.
-use borrow.Author.Rules.{rules}
 use native.Mathlib.Omega.{arith}
-use Prim.Native.Nat.{◌-◌}
-use lib.ListN.{length}
-use Rattle.writing.proofs.Channels.{TakenPixels, taken_none, PixelRoom, taken_room, pixel_one, taken_all}
+use Rattle.writing.proofs.Channels.{PixelRoom, taken_room, pixel_one}
 use Rattle.writing.proofs.planar.channel1.Goals as goal
 
 pub loop-at-preserved : goal.loop-at-preserved

@@ -1,11 +1,9 @@
 -- `writing::planar::channel2` meets its contract: the invariant and its laws are in proofs/Channels.antt. Assumes nothing.
-use borrow.Author.Rules.{rules}
 use native.Mathlib.Omega.{arith}
-use Prim.Native.Nat.{◌+◌, ◌-◌, ◌/◌, ◌≤◌}
+use Prim.Native.Nat.{◌+◌, ◌/◌, ◌≤◌}
 use mathlib.Core.Path.{◌≡◌}
-use lib.ListN.{length, length-set}
 use Rattle.pixels.proofs.HighFirst.{high-few}
-use Rattle.writing.proofs.Channels.{TakenPixels, taken_none, PixelRoom, taken_room, pixel_two, taken_all}
+use Rattle.writing.proofs.Channels.{PixelRoom, taken_room, pixel_two}
 use Rattle.writing.proofs.planar.channel2.Goals as goal
 
 pub loop-at-preserved : goal.loop-at-preserved

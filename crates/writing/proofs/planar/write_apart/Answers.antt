@@ -1,8 +1,7 @@
 -- `writing::planar::write_apart` meets its contract: the invariant and its laws are in proofs/Planewise.antt. Assumes nothing.
-use borrow.Author.Rules.{rules}
 use native.Mathlib.Omega.{arith}
-use Prim.Native.Nat.{◌-◌, ◌<◌}
-use Rattle.writing.proofs.Planewise.{Planewise, planes-none, plane_room, plane_fits, plane_next, planes_ended}
+use Prim.Native.Nat.{◌<◌}
+use Rattle.writing.proofs.Planewise.{plane_room, plane_next, planes_ended}
 use Rattle.writing.proofs.planar.write_apart.Goals as goal
 
 pub overflow_add-end : goal.overflow_add-end

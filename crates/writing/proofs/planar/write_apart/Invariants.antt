@@ -1,8 +1,6 @@
 -- `writing::planar::write_apart` meets its contract: the invariant and its laws are in proofs/Planewise.antt. Assumes nothing.
-use borrow.Author.Rules.{rules}
-use native.Mathlib.Omega.{arith}
-use Prim.Native.Nat.{◌-◌, ◌<◌}
-use Rattle.writing.proofs.Planewise.{Planewise, planes-none, plane_room, plane_fits, plane_next, planes_ended}
+use Prim.Native.Nat.{◌-◌}
+use Rattle.writing.proofs.Planewise.{Planewise}
 use Rattle.writing.proofs.planar.write_apart.Given as goal
 
 abbrev pub invariant-loop-c : goal.invariant-loop-c

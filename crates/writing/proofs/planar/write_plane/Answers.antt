@@ -1,5 +1,4 @@
 -- `writing::planar::write_plane` meets its contract: the laws are in proofs/Planewise.antt. Assumes nothing.
-use borrow.Author.Rules.{rules}
 use native.Mathlib.Omega.{arith}
 use Prim.Native.Nat.{◌*◌}
 use mathlib.Core.Path.{sym, ◌∙◌}
