@@ -1,4 +1,4 @@
-//! Has the archive of the proved library written by `rt staticlib capi`, and links it.
+//! Has the archive of the proved library written by `rt lib` in crates/capi, keeps it in target/staticlib, and links it.
 
 use std::path::{Path, PathBuf};
 use std::process::{exit, Command};
@@ -11,19 +11,29 @@ fn main() {
     }
     let host = PathBuf::from(env::var_os("CARGO_MANIFEST_DIR").expect("cargo names the folder of the crate"));
     let root = host.parent().expect("the crate stands in the repository");
-    let sources = [root.join("crates"), root.join("crates.txt")];
+    let sources = sources(root).unwrap_or_else(|e| stop(&format!("the folder `crates` cannot be read: {e}")));
     let folder = root.join("target/staticlib");
     let archive = folder.join("libcapi.a");
     for path in sources.iter().chain([&archive]) {
         println!("cargo:rerun-if-changed={}", path.display());
     }
     if !is_newer(&archive, &sources) {
-        write_archive(root);
+        write_archive(root, &archive);
     }
     println!("cargo:rustc-link-search=native={}", folder.display());
     println!("cargo:rustc-link-lib=static=capi");
     println!("cargo:rustc-env=HAMRISK_ARCHIVE={}", archive.display());
     println!("cargo:rustc-env=HAMRISK_INCLUDE={}", root.join("include").display());
+}
+
+/// What the archive is made of; what `rt` keeps in crates/*/out is none of it.
+fn sources(root: &Path) -> io::Result<Vec<PathBuf>> {
+    let mut found = vec![root.join("crates.txt")];
+    for entry in fs::read_dir(root.join("crates"))? {
+        let folder = entry?.path();
+        found.extend(["src", "specs", "proofs"].map(|part| folder.join(part)).into_iter().filter(|part| part.is_dir()));
+    }
+    Ok(found)
 }
 
 /// Whether the archive is there and no source has changed since it was written.
@@ -44,9 +54,11 @@ fn newest(path: &Path) -> io::Result<SystemTime> {
     Ok(time)
 }
 
-/// Runs `rt staticlib capi`, which proves the library before it writes the archive.
-fn write_archive(root: &Path) {
-    let output = match Command::new("rt").args(["staticlib", "capi"]).current_dir(root).output() {
+/// Runs `rt lib` in crates/capi, which proves the library before it writes the archive, and keeps a copy of that, whole or not at all.
+/// It is for each x86-64 processor: an archive cannot look what it runs on.
+fn write_archive(root: &Path, archive: &Path) {
+    let capi = root.join("crates/capi");
+    let output = match Command::new("rt").args(["lib", "--cpu", "x86-64"]).current_dir(&capi).output() {
         Ok(output) => output,
         Err(e) if e.kind() == io::ErrorKind::NotFound => {
             stop("`rt` is not on the path: the Rattle toolchain is needed to prove and compile the library")
@@ -55,7 +67,14 @@ fn write_archive(root: &Path) {
     };
     if !output.status.success() {
         eprintln!("{}{}", String::from_utf8_lossy(&output.stdout), String::from_utf8_lossy(&output.stderr));
-        stop(&format!("`rt staticlib capi` failed ({}); what it said stands above", output.status));
+        stop(&format!("`rt lib` in crates/capi failed ({}); what it said stands above", output.status));
+    }
+    let new = archive.with_extension("new");
+    let copied = fs::create_dir_all(archive.parent().expect("the archive stands in a folder"))
+        .and_then(|()| fs::copy(capi.join("out/libcapi.a"), &new))
+        .and_then(|_| fs::rename(&new, archive));
+    if let Err(e) = copied {
+        stop(&format!("crates/capi/out/libcapi.a could not be copied to {}: {e}", archive.display()));
     }
 }
 

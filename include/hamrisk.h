@@ -1,5 +1,5 @@
 /*
- * Hamrisk, the sample layer of TIFF, for C and C++: `rt staticlib capi` writes target/staticlib/libcapi.a, for x86-64 Linux.
+ * Hamrisk, the sample layer of TIFF, for C and C++: `./hamrisk` has target/staticlib/libcapi.a written, for x86-64 Linux.
  *
  * Every call ends on any numbers and any bytes. It returns HAMRISK_DONE, or the number of its refusal: the first fault in the order
  * that stands at the call decides. A refusal writes nothing: buffers and lent numbers keep what they held, but for the state of

@@ -13,12 +13,21 @@ fn root() -> &'static Path {
     Path::new(env!("CARGO_MANIFEST_DIR")).parent().expect("the crate stands in the repository")
 }
 
-/// An empty folder of this test's own.
-fn folder(name: &str) -> PathBuf {
-    let folder = Path::new(env!("CARGO_TARGET_TMPDIR")).join(name);
-    let _ = fs::remove_dir_all(&folder);
-    fs::create_dir_all(&folder).expect("a folder can be made");
-    folder
+/// A folder of a test's own, removed at its end. It stands outside the repository, in which `rt ci` refuses links.
+struct Folder(PathBuf);
+
+impl Folder {
+    fn new(name: &str) -> Folder {
+        let path = std::env::temp_dir().join(format!("hamrisk-{name}-{}", std::process::id()));
+        fs::create_dir_all(&path).expect("a folder can be made");
+        Folder(path)
+    }
+}
+
+impl Drop for Folder {
+    fn drop(&mut self) {
+        let _ = fs::remove_dir_all(&self.0);
+    }
 }
 
 fn said(output: &Output) -> String {
@@ -47,7 +56,8 @@ int main(void) {
 
 #[test]
 fn what_is_installed_serves_c_cpp_and_a_shell() {
-    let here = folder("install");
+    let folder = Folder::new("install");
+    let here = &folder.0;
     let prefix = here.join("prefix");
     let install = Command::new(root().join("hamrisk")).arg("install").arg(&prefix).output().expect("the script runs");
     assert!(install.status.success(), "{}", said(&install));
@@ -70,7 +80,7 @@ fn what_is_installed_serves_c_cpp_and_a_shell() {
             .args(["-x", language, "example.c", "-x", "none", "-o"])
             .arg(&program)
             .args(flags.split_whitespace())
-            .current_dir(&here)
+            .current_dir(here)
             .output()
             .expect("the compiler is on the path");
         assert!(compiled.status.success(), "{}", said(&compiled));
@@ -80,7 +90,7 @@ fn what_is_installed_serves_c_cpp_and_a_shell() {
     }
     for words in [&["wrap", "example.c", "wrapped.tif", "--w=9", "--h=9"][..], &["samples", "wrapped.tif", "planes"]] {
         let command = prefix.join("bin/hamrisk");
-        let run = runner::program(command).args(words).current_dir(&here).output().expect("the command runs");
+        let run = runner::program(command).args(words).current_dir(here).output().expect("the command runs");
         assert_eq!(said(&run), "", "{words:?}");
     }
     assert_eq!(fs::read(here.join("planes")).expect("planes are written"), example().as_bytes()[..81]);
@@ -88,7 +98,8 @@ fn what_is_installed_serves_c_cpp_and_a_shell() {
 
 /// The script in a folder where nothing is built, with these tools alone on its path.
 fn bare(name: &str, tools: &[&str]) -> Output {
-    let here = folder(name);
+    let folder = Folder::new(name);
+    let here = &folder.0;
     let path = here.join("bin");
     fs::create_dir_all(here.join("tools")).expect("a folder can be made");
     fs::create_dir_all(&path).expect("a folder can be made");
@@ -109,7 +120,7 @@ fn bare(name: &str, tools: &[&str]) -> Output {
     Command::new(here.join("hamrisk"))
         .arg("demo")
         .env("PATH", &path)
-        .env("HOME", &here)
+        .env("HOME", here)
         .output()
         .expect("the script runs")
 }
