@@ -52,12 +52,12 @@ sample s row ch bytes le predict n = sample_within s row ch bytes le predict n n
 abbrev pub converted : List ℕ → ℕ → ℕ → ℕ → Bool → Bool → Bool → ℕ → ℕ
 converted s row ch bytes le predict out_le k = digit (sample s row ch bytes le predict (k / bytes)) (pick out_le (k % bytes) (bytes - 1 - k % bytes))
 
-pub record Valid (s : List ℕ) (row_bytes_lem ch bytes : ℕ) : Type 0 where
+pub record Valid (s : List ℕ) (row_bytes ch bytes : ℕ) : Type 0 where
   pub width : width_ok bytes ≡ true
   pub channels : (0 < ch) × (ch ≤ 64)
-  pub row : 0 < row_bytes_lem
-  pub groups : row_bytes_lem % (ch * bytes) ≡ 0
-  pub rows : length s % row_bytes_lem ≡ 0
+  pub row : 0 < row_bytes
+  pub groups : row_bytes % (ch * bytes) ≡ 0
+  pub rows : length s % row_bytes ≡ 0
 
 unfoldable pub reversed : ℕ → ℕ
 reversed v =
