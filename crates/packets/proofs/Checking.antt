@@ -37,6 +37,10 @@ pub any_order : (p : Plan) (k : ℕ) (tail sums : List ℕ) → consistent (stat
 unfolding consistent
 any_order p k tail sums = refl
 
+-- so a check of the rest is a check of the state
+pub order_checked : (p : Plan) (k : ℕ) (tail sums : List ℕ) {r : Bool} → r ≡ consistent (state (plan p.row_bytes p.channels p.width true p.predict true) k tail sums) → consistent (state p k tail sums) ≡ r
+order_checked p k tail sums e = sym (e ∙ any_order p k tail sums)
+
 -- a loop that came to its end has tested all
 pub tails-all : (tail : List ℕ) (begun : ℕ) {n : ℕ} {right : Bool} → n ≤ 8 → 8 ≤ n → right ≡ every n (tail_right tail begun) → right ≡ tails_right tail begun
 unfolding tails_right

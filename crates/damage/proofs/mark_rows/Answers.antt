@@ -3,7 +3,12 @@ use native.Mathlib.Omega.{arith}
 use Prim.Native.Nat.{◌+◌, ◌/◌, ◌≤◌}
 use lib.ListN.{length}
 use Rattle.damage.proofs.MarkedRows.{strip-wide, row-some, row_room, marks-room, row_fits, row_turned, count_room, rows_ended}
+use Rattle.damage.proofs.mark_rows.Goals.{In-loop-at}
 use Rattle.damage.proofs.mark_rows.Goals as goal
+
+free : (c : In-loop-at) → let args = c.args in c.loop-at.n + args.row_bytes / args.width ≤ length args.marks.now
+free c =
+    marks-room c.requires c.loop-at.invariant c.loop-at-test.true
 
 pub nonzero_div-row_marks : goal.nonzero_div-row_marks
 nonzero_div-row_marks c =
@@ -11,8 +16,7 @@ nonzero_div-row_marks c =
 
 pub overflow_add-last : goal.overflow_add-last
 overflow_add-last c =
-    let free : let args = c.args in c.loop-at.n + args.row_bytes / args.width ≤ length args.marks.now = marks-room c.requires c.loop-at.invariant c.loop-at-test.true in
-    omega (arith, free, c.well_formed)
+    omega (arith, free (goal.at.overflow_add-last c).In-loop-at, c.well_formed)
 
 pub slice_bounds-mark_row-end : goal.slice_bounds-mark_row-end
 slice_bounds-mark_row-end c =
@@ -21,8 +25,7 @@ slice_bounds-mark_row-end c =
 
 pub slice_bounds-mark_row-end-in-loop-at : goal.slice_bounds-mark_row-end-in-loop-at
 slice_bounds-mark_row-end-in-loop-at c =
-    let free : let args = c.args in c.loop-at.n + args.row_bytes / args.width ≤ length args.marks.now = marks-room c.requires c.loop-at.invariant c.loop-at-test.true in
-    omega (arith, free, c.loop-at.invariant.same)
+    omega (arith, free (goal.at.slice_bounds-mark_row-end-in-loop-at c).In-loop-at, c.loop-at.invariant.same)
 
 pub mark_row-more-requires : goal.mark_row-more-requires
 mark_row-more-requires c =

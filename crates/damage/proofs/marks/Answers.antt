@@ -10,24 +10,30 @@ use Rattle.samples.specs.Sample.{Strip, strip}
 use Rattle.samples.specs.Promises.{strip_faults}
 use Rattle.damage.specs.Promises.{samples_of, mark_faults}
 use Rattle.damage.proofs.Promised.{front_fits, exactly, marks-done}
+use Rattle.damage.proofs.marks.Goals.{In-Done}
 use Rattle.damage.proofs.marks.Goals as goal
+
+-- the check found no fault
+checked : (c : In-Done) → let given : List ℕ = c.args.damage.now in let geometry : Strip = strip c.args.row_bytes c.args.channels c.args.width in Sound (strip_faults (length given) geometry)
+checked c =
+    let given : List ℕ = c.args.damage.now in
+    let geometry : Strip = strip c.args.row_bytes c.args.channels c.args.width in
+    passed (strip_faults (length given) geometry) c.check_strip.result c.check_strip.ensures c.in-Done.is
 
 pub returns-then-marks-samples : goal.returns-then-marks-samples
 returns-then-marks-samples c =
     let given : List ℕ = c.args.damage.now in
     let geometry : Strip = strip c.args.row_bytes c.args.channels c.args.width in
     let buffer : List ℕ = c.args.marks.now in
-    let checked : Sound (strip_faults (length (given)) (geometry)) = passed (strip_faults (length (given)) (geometry)) c.check_strip.result c.check_strip.ensures c.in-Done.is in
     exactly given geometry c.args.predict buffer _ _
-    (refuses (mark_faults given geometry buffer) _ _ _ (sound_then checked (here (lt-ltb (length buffer) (samples_of given geometry) (omega (arith, c.if-marks-samples.true))))))
+    (refuses (mark_faults given geometry buffer) _ _ _ (sound_then (checked (goal.at.returns-then-marks-samples c).In-Done) (here (lt-ltb (length buffer) (samples_of given geometry) (omega (arith, c.if-marks-samples.true))))))
 
 pub mark_strip-count-requires : goal.mark_strip-count-requires
 mark_strip-count-requires c =
     let given : List ℕ = c.args.damage.now in
     let geometry : Strip = strip c.args.row_bytes c.args.channels c.args.width in
     let buffer : List ℕ = c.args.marks.now in
-    let checked : Sound (strip_faults (length (given)) (geometry)) = passed (strip_faults (length (given)) (geometry)) c.check_strip.result c.check_strip.ensures c.in-Done.is in
-    front_fits given geometry buffer checked (omega (arith, c.if-marks-samples.false))
+    front_fits given geometry buffer (checked (goal.at.mark_strip-count-requires c).In-Done) (omega (arith, c.if-marks-samples.false))
 
 pub returns-in-Refused : goal.returns-in-Refused
 returns-in-Refused c =
@@ -42,8 +48,7 @@ returns-else-marks-samples c =
     let given : List ℕ = c.args.damage.now in
     let geometry : Strip = strip c.args.row_bytes c.args.channels c.args.width in
     let buffer : List ℕ = c.args.marks.now in
-    let checked : Sound (strip_faults (length (given)) (geometry)) = passed (strip_faults (length (given)) (geometry)) c.check_strip.result c.check_strip.ensures c.in-Done.is in
     marks-done given geometry c.args.predict buffer _ _
-    (sound_more checked (next (le-ltb (length buffer) (samples_of given geometry) (omega (arith, c.if-marks-samples.false))) none))
+    (sound_more (checked (goal.at.returns-else-marks-samples c).In-Done) (next (le-ltb (length buffer) (samples_of given geometry) (omega (arith, c.if-marks-samples.false))) none))
     (omega (arith, c.if-marks-samples.false))
     c.mark_strip-count.ensures

@@ -8,16 +8,19 @@ use mathlib.Core.Bool.{false}
 use mathlib.Core.List.{List}
 use mathlib.Core.Path.{◌≡◌}
 use native.Mathlib.Omega.{arith}
+use Rattle.directory.proofs.one_strip.Goals.{Else-n-k}
 use Rattle.directory.proofs.one_strip.Goals as goal
+
+there : (c : Else-n-k) → leb c.args.s.offsets.count c.args.k ≡ false
+there c =
+    lt-leb c.args.s.offsets.count c.args.k (omega (arith, c.if-n-k.false))
 
 pub returns-in-Refused : goal.returns-in-Refused
 returns-in-Refused c =
     let faults : List Fault = one_faults c.args.file.now c.args.s c.args.k in
-    let there : leb c.args.s.offsets.count c.args.k ≡ false = lt-leb c.args.s.offsets.count c.args.k (omega (arith, c.if-n-k.false)) in
-    refusing faults _ (later there (step-first c.check_strip.ensures c.in-Refused.is))
+    refusing faults _ (later (there (goal.at.returns-in-Refused c).Else-n-k) (step-first c.check_strip.ensures c.in-Refused.is))
 
 pub returns-in-Done : goal.returns-in-Done
 returns-in-Done c =
     let faults : List Fault = one_faults c.args.file.now c.args.s c.args.k in
-    let there : leb c.args.s.offsets.count c.args.k ≡ false = lt-leb c.args.s.offsets.count c.args.k (omega (arith, c.if-n-k.false)) in
-    rw (c.place_of-at.ensures, c.length_of-bytes.ensures) (finishing faults _ (next there (step-sound c.check_strip.ensures c.in-Done.is)))
+    rw (c.place_of-at.ensures, c.length_of-bytes.ensures) (finishing faults _ (next (there (goal.at.returns-in-Done c).Else-n-k) (step-sound c.check_strip.ensures c.in-Done.is)))

@@ -7,13 +7,17 @@ use borrow.Author.Tests.{le-ltb, lt-ltb}
 use lib.ListN.{length}
 use mathlib.Core.List.{List}
 use native.Mathlib.Omega.{arith}
+use Rattle.directory.proofs.place_strips.Goals.{In-Done}
 use Rattle.directory.proofs.place_strips.Goals as goal
+
+sound : (c : In-Done) → Sound (strips_faults c.args.file.now c.args.s)
+sound c =
+    step-sound c.check_strips.ensures c.in-Done.is
 
 pub returns-then-parts-count_of : goal.returns-then-parts-count_of
 returns-then-parts-count_of c =
     let faults : List Fault = parts_faults c.args.file.now c.args.s c.args.parts.now in
-    let sound : Sound (strips_faults c.args.file.now c.args.s) = step-sound c.check_strips.ensures c.in-Done.is in
-    refuses faults tt _ _ (sound_then sound (here (lt-ltb (length c.args.parts.now) (2 * c.args.s.offsets.count) (omega (arith, c.count_of.ensures, c.if-parts-count_of.true)))))
+    refuses faults tt _ _ (sound_then (sound (goal.at.returns-then-parts-count_of c).In-Done) (here (lt-ltb (length c.args.parts.now) (2 * c.args.s.offsets.count) (omega (arith, c.count_of.ensures, c.if-parts-count_of.true)))))
 
 pub returns-in-Refused : goal.returns-in-Refused
 returns-in-Refused c =
@@ -23,5 +27,4 @@ returns-in-Refused c =
 pub returns-else-parts-count_of : goal.returns-else-parts-count_of
 returns-else-parts-count_of c =
     let faults : List Fault = parts_faults c.args.file.now c.args.s c.args.parts.now in
-    let sound : Sound (strips_faults c.args.file.now c.args.s) = step-sound c.check_strips.ensures c.in-Done.is in
-    finishes faults tt (2 * c.args.s.offsets.count) (part_number c.args.file.now c.args.s) _ _ (sound_more sound (next (le-ltb (length c.args.parts.now) (2 * c.args.s.offsets.count) (omega (arith, c.count_of.ensures, c.if-parts-count_of.false))) none)) c.fill_parts.ensures
+    finishes faults tt (2 * c.args.s.offsets.count) (part_number c.args.file.now c.args.s) _ _ (sound_more (sound (goal.at.returns-else-parts-count_of c).In-Done) (next (le-ltb (length c.args.parts.now) (2 * c.args.s.offsets.count) (omega (arith, c.count_of.ensures, c.if-parts-count_of.false))) none)) c.fill_parts.ensures

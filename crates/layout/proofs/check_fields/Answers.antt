@@ -3,19 +3,22 @@ use mathlib.Core.List.{◌++◌}
 use Rattle.answer.specs.Outcome.{Step}
 use Rattle.answer.proofs.Promised.{sound-front, step-sound, step-refused, step-on}
 use Rattle.layout.specs.Layout.{served_faults, agreed_faults}
+use Rattle.layout.proofs.check_fields.Goals.{After-first_of}
 use Rattle.layout.proofs.check_fields.Goals as goal
+
+-- the first two steps, in their order
+steps : (c : After-first_of) → let f = c.args.f in Step (served_faults f ++ agreed_faults f) c.first_of.result
+steps c =
+    c.first_of.ensures _ _ c.check_served-served.ensures c.check_agreed-agreed.ensures
 
 pub check_size-requires : goal.check_size-requires
 check_size-requires c =
-    let steps : let f = c.args.f in Step (served_faults f ++ agreed_faults f) c.first_of.result = c.first_of.ensures _ _ c.check_served-served.ensures c.check_agreed-agreed.ensures in
-    sound-front _ _ (step-sound steps c.in-Done.is)
+    sound-front _ _ (step-sound (steps (goal.at.check_size-requires c).After-first_of) c.in-Done.is)
 
 pub returns-in-Refused : goal.returns-in-Refused
 returns-in-Refused c =
-    let steps : let f = c.args.f in Step (served_faults f ++ agreed_faults f) c.first_of.result = c.first_of.ensures _ _ c.check_served-served.ensures c.check_agreed-agreed.ensures in
-    step-refused _ steps c.in-Refused.is
+    step-refused _ (steps (goal.at.returns-in-Refused c).After-first_of) c.in-Refused.is
 
 pub returns-in-Done : goal.returns-in-Done
 returns-in-Done c =
-    let steps : let f = c.args.f in Step (served_faults f ++ agreed_faults f) c.first_of.result = c.first_of.ensures _ _ c.check_served-served.ensures c.check_agreed-agreed.ensures in
-    step-on steps c.in-Done.is c.check_size.ensures
+    step-on (steps (goal.at.returns-in-Done c).After-first_of) c.in-Done.is c.check_size.ensures

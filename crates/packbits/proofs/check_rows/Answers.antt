@@ -9,32 +9,39 @@ use Rattle.answer.proofs.Promised.{refusing}
 use Rattle.packbits.specs.Rows.{row_faults, rows_faults, used, used_outcome, RowMeasured}
 use Rattle.packbits.proofs.Packets.{RowsLooked, rows-first, rows_on, rows_end, rows_turned, rest_of}
 use Rattle.laws.proofs.Faults.{answered, declined}
+use Rattle.packbits.proofs.check_rows.Goals.{After-row_used, In-Used}
 use Rattle.packbits.proofs.check_rows.Goals as goal
+
+-- the next row, over the rest of the input
+measured : (c : After-row_used) → let rest : List ℕ = drop c.loop-k.at c.args.packed.now in RowMeasured rest c.args.row_bytes c.row_used.result
+measured c =
+    rw (rest_of c.args.packed.now c.loop-k.at) at c.row_used.ensures
+
+done : (c : In-Used) → let rest : List ℕ = drop c.loop-k.at c.args.packed.now in let n = c.args.row_bytes in (c.in-Used.n ≡ used rest n) × Sound (row_faults rest n)
+done c =
+    let rest : List ℕ = drop c.loop-k.at c.args.packed.now in
+    let measured : RowMeasured rest c.args.row_bytes c.row_used.result = rw (rest_of c.args.packed.now c.loop-k.at) at c.row_used.ensures in
+    let n = c.args.row_bytes in answered used_outcome (row_faults rest n) (used rest n) measured c.in-Used.is refl
+
+next : (c : In-Used) → RowsLooked c.args.packed.now c.turns-all.result c.args.row_bytes (c.loop-k.at + c.in-Used.n) (c.loop-k.k + 1)
+next c =
+    let row = done c in rw row.0 (rows_on c.loop-k.invariant c.loop-k-test.true row.1)
 
 pub returns-in-Refused : goal.returns-in-Refused
 returns-in-Refused c =
     let rest : List ℕ = drop c.loop-k.at c.args.packed.now in
-    let measured : RowMeasured (rest) c.args.row_bytes c.row_used.result = rw (rest_of c.args.packed.now c.loop-k.at) at c.row_used.ensures in
     let args = c.args in
     record {
-      passed = refusing (rows_faults args.packed.now args.rows args.row_bytes) tt (rw (rows_turned args.packed.now args.rows args.row_bytes c.turns-all.ensures) at (rows-first c.loop-k.invariant c.loop-k-test.true (declined used_outcome (row_faults rest args.row_bytes) (used rest args.row_bytes) measured c.in-Refused.is refl)));
+      passed = refusing (rows_faults args.packed.now args.rows args.row_bytes) tt (rw (rows_turned args.packed.now args.rows args.row_bytes c.turns-all.ensures) at (rows-first c.loop-k.invariant c.loop-k-test.true (declined used_outcome (row_faults rest args.row_bytes) (used rest args.row_bytes) (measured (goal.at.returns-in-Refused c).After-row_used) c.in-Refused.is refl)));
     }
 
 pub overflow_add-at : goal.overflow_add-at
 overflow_add-at c =
-    let rest : List ℕ = drop c.loop-k.at c.args.packed.now in
-    let measured : RowMeasured (rest) c.args.row_bytes c.row_used.result = rw (rest_of c.args.packed.now c.loop-k.at) at c.row_used.ensures in
-    let done : let n = c.args.row_bytes in (c.in-Used.n ≡ used (rest) n) × Sound (row_faults (rest) n) = let n = c.args.row_bytes in answered used_outcome (row_faults (rest) n) (used (rest) n) (measured) c.in-Used.is refl in
-    let next : RowsLooked c.args.packed.now c.turns-all.result c.args.row_bytes (c.loop-k.at + c.in-Used.n) (c.loop-k.k + 1) = let row = done in rw row.0 (rows_on c.loop-k.invariant c.loop-k-test.true row.1) in
-    omega (arith, next.inside)
+    omega (arith, (next (goal.at.overflow_add-at c).In-Used).inside)
 
 pub loop-k-preserved : goal.loop-k-preserved
 loop-k-preserved c =
-    let rest : List ℕ = drop c.loop-k.at c.args.packed.now in
-    let measured : RowMeasured (rest) c.args.row_bytes c.row_used.result = rw (rest_of c.args.packed.now c.loop-k.at) at c.row_used.ensures in
-    let done : let n = c.args.row_bytes in (c.in-Used.n ≡ used (rest) n) × Sound (row_faults (rest) n) = let n = c.args.row_bytes in answered used_outcome (row_faults (rest) n) (used (rest) n) (measured) c.in-Used.is refl in
-    let next : RowsLooked c.args.packed.now c.turns-all.result c.args.row_bytes (c.loop-k.at + c.in-Used.n) (c.loop-k.k + 1) = let row = done in rw row.0 (rows_on c.loop-k.invariant c.loop-k-test.true row.1) in
-    next
+    next (goal.at.loop-k-preserved c).In-Used
 
 pub returns : goal.returns
 returns c =

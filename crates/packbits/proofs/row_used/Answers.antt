@@ -8,7 +8,16 @@ use Rattle.packbits.specs.Rows.{Packet, packet_faults, row_faults}
 use Rattle.packbits.specs.Parts.{begun}
 use Rattle.packbits.proofs.Packets.{looked_first, looked_on, looked_past, looked_end, FitsAt, fits-at, WholeLiteral, whole_literal-is, Nothing, nothing_is}
 use Rattle.packbits.proofs.Onward.{finishing_as}
+use Rattle.packbits.proofs.row_used.Goals.{In-Done}
 use Rattle.packbits.proofs.row_used.Goals as goal
+
+sound : (c : In-Done) → let begun_at : Packet = begun c.args.packed.now c.loop-left.at c.loop-left.left in Sound (packet_faults begun_at)
+sound c =
+    step-sound c.check_packet.ensures c.in-Done.is
+
+fit : (c : In-Done) → FitsAt c.args.packed.now c.loop-left.at c.loop-left.left
+fit c =
+    fits-at _ _ _ (sound c)
 
 pub loop-left-preserved-then-whole_literal : goal.loop-left-preserved-then-whole_literal
 loop-left-preserved-then-whole_literal c =
@@ -28,37 +37,23 @@ returns-in-Refused c =
 
 pub bounds-packed-at : goal.bounds-packed-at
 bounds-packed-at c =
-    let begun-at : Packet = begun c.args.packed.now c.loop-left.at c.loop-left.left in
-    let sound : Sound (packet_faults (begun-at)) = step-sound c.check_packet.ensures c.in-Done.is in
-    let fit : FitsAt c.args.packed.now c.loop-left.at c.loop-left.left = fits-at _ _ _ (sound) in
-    omega (arith, fit)
+    omega (arith, fit (goal.at.bounds-packed-at c).In-Done)
 
 pub overflow_sub-left-else-does_nothing : goal.overflow_sub-left-else-does_nothing
 overflow_sub-left-else-does_nothing c =
-    let begun-at : Packet = begun c.args.packed.now c.loop-left.at c.loop-left.left in
-    let sound : Sound (packet_faults (begun-at)) = step-sound c.check_packet.ensures c.in-Done.is in
-    let fit : FitsAt c.args.packed.now c.loop-left.at c.loop-left.left = fits-at _ _ _ (sound) in
-    omega (arith, fit, c.fills-left.ensures)
+    omega (arith, fit (goal.at.overflow_sub-left-else-does_nothing c).In-Done, c.fills-left.ensures)
 
 pub overflow_add-at-else-does_nothing : goal.overflow_add-at-else-does_nothing
 overflow_add-at-else-does_nothing c =
-    let begun-at : Packet = begun c.args.packed.now c.loop-left.at c.loop-left.left in
-    let sound : Sound (packet_faults (begun-at)) = step-sound c.check_packet.ensures c.in-Done.is in
-    let fit : FitsAt c.args.packed.now c.loop-left.at c.loop-left.left = fits-at _ _ _ (sound) in
-    omega (arith, fit, c.takes-at.ensures)
+    omega (arith, fit (goal.at.overflow_add-at-else-does_nothing c).In-Done, c.takes-at.ensures)
 
 pub loop-left-smaller : goal.loop-left-smaller
 loop-left-smaller c =
-    let begun-at : Packet = begun c.args.packed.now c.loop-left.at c.loop-left.left in
-    let sound : Sound (packet_faults (begun-at)) = step-sound c.check_packet.ensures c.in-Done.is in
-    let fit : FitsAt c.args.packed.now c.loop-left.at c.loop-left.left = fits-at _ _ _ (sound) in
-    omega (arith, fit, c.takes-at.ensures)
+    omega (arith, fit (goal.at.loop-left-smaller c).In-Done, c.takes-at.ensures)
 
 pub loop-left-preserved : goal.loop-left-preserved
 loop-left-preserved c =
-    let begun-at : Packet = begun c.args.packed.now c.loop-left.at c.loop-left.left in
-    let sound : Sound (packet_faults (begun-at)) = step-sound c.check_packet.ensures c.in-Done.is in
-    rw (c.takes-at.ensures, c.fills-left.ensures) (looked_on c.loop-left.invariant c.loop-left-test.true sound)
+    rw (c.takes-at.ensures, c.fills-left.ensures) (looked_on c.loop-left.invariant c.loop-left-test.true (sound (goal.at.loop-left-preserved c).In-Done))
 
 pub returns : goal.returns
 returns c =

@@ -16,5 +16,5 @@ returns-in-Refused c =
     let plan : List Planned = plan_of c.args.kinds.now c.args.lengths.now in
     let faults : List Fault = plan_faults c.args.row.now c.args.kinds.now c.args.lengths.now c.args.out.now in
     let paired : length c.args.kinds.now ≡ length c.args.lengths.now = c.if-kinds-lengths.false in
-    let kept : keeps c.args.row.now (plan) ≡ true = sym c.check_plan.ensures ∙ c.if-not-check_plan.false in
+    let kept : keeps c.args.row.now plan ≡ true = sym c.check_plan.ensures ∙ c.if-not-check_plan.false in
     refuses faults _ _ _ (plan-first c.args.row.now c.args.kinds.now c.args.lengths.now c.args.out.now paired kept (declined packed_outcome (room_faults (length c.args.out.now) plan) (plan_length plan) c.plan_length.ensures c.in-Refused.is refl))

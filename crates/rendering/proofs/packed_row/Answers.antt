@@ -6,25 +6,26 @@ use lib.ListN.{length}
 use Rattle.layout.specs.Layout.{byte_limit}
 use Rattle.laws.proofs.Says.{clash, up, equal, either}
 use Rattle.rendering.proofs.PackedRows.{packed_row_end, packed-limited, palette_rendered, bilevel_rendered}
+use Rattle.rendering.proofs.packed_row.Goals.{Start}
 use Rattle.rendering.proofs.packed_row.Goals as goal
+
+-- it lies in the planes
+inside : (c : Start) → let end = c.args.y * c.args.l.encoded_width + c.args.l.encoded_width in (end ≤ length c.args.raw.now) × (end ≤ byte_limit)
+inside c =
+    let pre = c.requires in
+    (omega (arith, packed_row_end pre.0 pre.1, pre.0.planes), omega (arith, packed_row_end pre.0 pre.1, packed-limited pre.0 pre.1))
 
 pub overflow_mul-from : goal.overflow_mul-from
 overflow_mul-from c =
-    let inside : let end = c.args.y * c.args.l.encoded_width + c.args.l.encoded_width in (end ≤ length c.args.raw.now) × (end ≤ byte_limit) = let pre = c.requires in
-    (omega (arith, packed_row_end pre.0 pre.1, pre.0.planes), omega (arith, packed_row_end pre.0 pre.1, packed-limited pre.0 pre.1)) in
-    record { fits = omega (arith, inside) }
+    record { fits = omega (arith, inside (goal.at.overflow_mul-from c).Start) }
 
 pub overflow_add-end : goal.overflow_add-end
 overflow_add-end c =
-    let inside : let end = c.args.y * c.args.l.encoded_width + c.args.l.encoded_width in (end ≤ length c.args.raw.now) × (end ≤ byte_limit) = let pre = c.requires in
-    (omega (arith, packed_row_end pre.0 pre.1, pre.0.planes), omega (arith, packed_row_end pre.0 pre.1, packed-limited pre.0 pre.1)) in
-    omega (arith, inside)
+    omega (arith, inside (goal.at.overflow_add-end c).Start)
 
 pub slice_bounds-row-end : goal.slice_bounds-row-end
 slice_bounds-row-end c =
-    let inside : let end = c.args.y * c.args.l.encoded_width + c.args.l.encoded_width in (end ≤ length c.args.raw.now) × (end ≤ byte_limit) = let pre = c.requires in
-    (omega (arith, packed_row_end pre.0 pre.1, pre.0.planes), omega (arith, packed_row_end pre.0 pre.1, packed-limited pre.0 pre.1)) in
-    omega (arith, inside)
+    omega (arith, inside (goal.at.slice_bounds-row-end c).Start)
 
 pub returns-then-l : goal.returns-then-l
 returns-then-l c =

@@ -3,7 +3,12 @@ use native.Mathlib.Omega.{arith}
 use Prim.Native.Nat.{◌+◌, ◌≤◌}
 use Rattle.pixels.specs.Render.{row_bytes}
 use Rattle.rendering.proofs.Picture.{row_small, rendered_room, rendered_next, rendered_all}
+use Rattle.rendering.proofs.render_rows.Goals.{In-loop-y}
 use Rattle.rendering.proofs.render_rows.Goals as goal
+
+room : (c : In-loop-y) → c.loop-y.at + row_bytes c.args.l ≤ c.args.l.output_len
+room c =
+    rendered_room c.requires c.loop-y.invariant (omega (arith, c.loop-y-test.true))
 
 pub overflow_mul-row_bytes : goal.overflow_mul-row_bytes
 overflow_mul-row_bytes c =
@@ -15,13 +20,11 @@ overflow_mul-row_bytes-2 c =
 
 pub overflow_add-end : goal.overflow_add-end
 overflow_add-end c =
-    let room : c.loop-y.at + row_bytes c.args.l ≤ c.args.l.output_len = rendered_room c.requires c.loop-y.invariant (omega (arith, c.loop-y-test.true)) in
-    omega (arith, room, c.requires.room, c.well_formed)
+    omega (arith, room (goal.at.overflow_add-end c).In-loop-y, c.requires.room, c.well_formed)
 
 pub slice_bounds-render_row-end : goal.slice_bounds-render_row-end
 slice_bounds-render_row-end c =
-    let room : c.loop-y.at + row_bytes c.args.l ≤ c.args.l.output_len = rendered_room c.requires c.loop-y.invariant (omega (arith, c.loop-y-test.true)) in
-    omega (arith, room, c.loop-y.invariant.same, c.requires.room)
+    omega (arith, room (goal.at.slice_bounds-render_row-end c).In-loop-y, c.loop-y.invariant.same, c.requires.room)
 
 pub loop-y-preserved : goal.loop-y-preserved
 loop-y-preserved c =

@@ -10,24 +10,30 @@ use Rattle.samples.proofs.Strips.{good_checked, bytes-words}
 use Rattle.rows.specs.Row.{StripServed}
 use Rattle.rows.proofs.Rows.{strip-served}
 use Rattle.rows.proofs.Leading.{unpredicted}
+use Rattle.rows.proofs.transform_rows.Goals.{In-Done}
 use Rattle.rows.proofs.transform_rows.Goals as goal
+
+-- the check found no fault
+sound : (c : In-Done) → let faults : List Fault = let args = c.args in convert_faults args.raw.now (strip args.row_bytes args.channels args.width) args.out.now in Sound (faults)
+sound c =
+    let faults : List Fault = let args = c.args in convert_faults args.raw.now (strip args.row_bytes args.channels args.width) args.out.now in
+    passed faults c.checked.result c.checked.ensures c.in-Done.is
+
+served_here : (c : In-Done) → let args = c.args in StripServed args.raw.now (strip args.row_bytes args.channels args.width) args.out.now
+served_here c =
+    strip-served _ _ _ (sound c)
 
 pub every_row-requires : goal.every_row-requires
 every_row-requires c =
-    let faults : List Fault = let args = c.args in convert_faults args.raw.now (strip args.row_bytes args.channels args.width) args.out.now in
-    let sound : Sound (faults) = passed (faults) c.checked.result c.checked.ensures c.in-Done.is in
-    let served-here : let args = c.args in StripServed args.raw.now (strip args.row_bytes args.channels args.width) args.out.now = strip-served _ _ _ (sound) in
-    served-here
+    served_here (goal.at.every_row-requires c).In-Done
 
 pub returns-else-predict : goal.returns-else-predict
 returns-else-predict c =
     let bytes : Bytes c.args.raw.now = λ i. omega (arith, c.type_inv.raw i) in
     let faults : List Fault = let args = c.args in convert_faults args.raw.now (strip args.row_bytes args.channels args.width) args.out.now in
-    let sound : Sound (faults) = passed (faults) c.checked.result c.checked.ensures c.in-Done.is in
-    let served-here : let args = c.args in StripServed args.raw.now (strip args.row_bytes args.channels args.width) args.out.now = strip-served _ _ _ (sound) in
     let args = c.args in
     let g = strip args.row_bytes args.channels args.width in
-    let fits = served-here in
+    let fits = served_here (goal.at.returns-else-predict c).In-Done in
     rw c.if-predict.false
-    (finishes faults tt (length args.raw.now) _ _ _ sound
+    (finishes faults tt (length args.raw.now) _ _ _ (sound (goal.at.returns-else-predict c).In-Done)
     (unpredicted args.raw.now bytes g args.le args.out_le args.forward args.out.now c.reorder.result _ (not-false _ (sound-here fits.sound)) (bytes-words _ g (good_checked _ g fits.sound)) fits.room c.reorder.ensures))

@@ -7,7 +7,12 @@ use Rattle.laws.proofs.Says.{neither}
 use Rattle.rows.specs.Row.{one_row}
 use Rattle.rows.proofs.Loops.{resumed-none}
 use Rattle.rows.proofs.Leading.{lead_fits, lead_on, lead_all, unpredicted}
+use Rattle.rows.proofs.transform_words.Goals.{After-shared_slice_known-1}
 use Rattle.rows.proofs.transform_words.Goals as goal
+
+bytes : (c : After-shared_slice_known-1) → Bytes c.args.raw.now
+bytes c =
+    λ i. omega (arith, c.type_inv.raw i)
 
 pub lead-requires : goal.lead-requires
 lead-requires c =
@@ -15,25 +20,22 @@ lead-requires c =
 
 pub steps-requires : goal.steps-requires
 steps-requires c =
-    let bytes : Bytes c.args.raw.now = λ i. omega (arith, c.type_inv.raw i) in
     let args = c.args in
-    (c.requires.takes, lead_on args.raw.now bytes args.channels args.width args.le args.out_le args.forward args.out.now _ c.requires c.lead.ensures)
+    (c.requires.takes, lead_on args.raw.now (bytes (goal.at.steps-requires c).After-shared_slice_known-1) args.channels args.width args.le args.out_le args.forward args.out.now _ c.requires c.lead.ensures)
 
 pub returns-then-forward-channels : goal.returns-then-forward-channels
 returns-then-forward-channels c =
-    let bytes : Bytes c.args.raw.now = λ i. omega (arith, c.type_inv.raw i) in
     let args = c.args in
-    rw c.if-predict.true (lead_all args.raw.now bytes args.channels args.width args.le args.out_le args.forward args.out.now _ c.requires c.lead.ensures _ c.steps.ensures)
+    rw c.if-predict.true (lead_all args.raw.now (bytes (goal.at.returns-then-forward-channels c).After-shared_slice_known-1) args.channels args.width args.le args.out_le args.forward args.out.now _ c.requires c.lead.ensures _ c.steps.ensures)
 
 pub returns-else-forward-channels : goal.returns-else-forward-channels
 returns-else-forward-channels c =
-    let at-most-four : (c.args.forward ≡ false) × (c.args.channels ≤ 4) = let is = neither _ _ c.if-forward-channels.false in (is.0, ltb-false _ _ is.1) in
+    let at_most_four : (c.args.forward ≡ false) × (c.args.channels ≤ 4) = let is = neither _ _ c.if-forward-channels.false in (is.0, ltb-false _ _ is.1) in
     let args = c.args in
-    rw (c.if-predict.true, at-most-four.0) (c.rows.ensures ∙ resumed-none args.raw.now (one_row args.raw.now args.channels args.width) args.le args.out_le args.out.now 4 c.requires.fits.channel)
+    rw (c.if-predict.true, at_most_four.0) (c.rows.ensures ∙ resumed-none args.raw.now (one_row args.raw.now args.channels args.width) args.le args.out_le args.out.now 4 c.requires.fits.channel)
 
 pub returns-else-predict : goal.returns-else-predict
 returns-else-predict c =
-    let bytes : Bytes c.args.raw.now = λ i. omega (arith, c.type_inv.raw i) in
     let args = c.args in
     let words = groups-words (length args.raw.now) args.channels args.width c.requires.fits.groups in
-    rw c.if-predict.false (unpredicted args.raw.now bytes (one_row args.raw.now args.channels args.width) args.le args.out_le args.forward args.out.now c.reorder.result _ c.requires.takes words c.requires.fits.room c.reorder.ensures)
+    rw c.if-predict.false (unpredicted args.raw.now (bytes (goal.at.returns-else-predict c).After-shared_slice_known-1) (one_row args.raw.now args.channels args.width) args.le args.out_le args.forward args.out.now c.reorder.result _ c.requires.takes words c.requires.fits.room c.reorder.ensures)

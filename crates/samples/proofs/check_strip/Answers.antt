@@ -6,14 +6,17 @@ use native.Mathlib.Omega.{arith}
 use lib.Dec.{lit<}
 use Rattle.words.specs.Promises.{served}
 use Rattle.words.proofs.Served.{served-some}
+use Rattle.samples.proofs.check_strip.Goals.{Else-not-width_served}
 use Rattle.samples.proofs.check_strip.Goals as goal
+
+allowed : (c : Else-not-width_served) → served c.args.width ≡ true
+allowed c =
+    sym c.width_served.ensures ∙ c.if-not-width_served.false
 
 pub overflow_mul-channels : goal.overflow_mul-channels
 overflow_mul-channels c =
-    let allowed : served c.args.width ≡ true = sym c.width_served.ensures ∙ c.if-not-width_served.false in
-    record { fits = lt_of_le_of_lt (mul-le-mul c.if-channels-gt64.false (served-some _ allowed).1) (lit< tt) }
+    record { fits = lt_of_le_of_lt (mul-le-mul c.if-channels-gt64.false (served-some _ (allowed (goal.at.overflow_mul-channels c).Else-not-width_served)).1) (lit< tt) }
 
 pub nonzero_rem-row_bytes : goal.nonzero_rem-row_bytes
 nonzero_rem-row_bytes c =
-    let allowed : served c.args.width ≡ true = sym c.width_served.ensures ∙ c.if-not-width_served.false in
-    mul-pos (omega arith) (served-some _ allowed).0
+    mul-pos (omega arith) (served-some _ (allowed (goal.at.nonzero_rem-row_bytes c).Else-not-width_served)).0

@@ -13,7 +13,7 @@ use Rattle.slots.proofs.bit_row.Goals as goal
 pub returns-then-rest-gt0 : goal.returns-then-rest-gt0
 unfolding bits_at
 returns-then-rest-gt0 c =
-    let room-left : let args = c.args in Sound (bit_faults args.picture.now args.out.now) = let args = c.args in
+    let room_left : let args = c.args in Sound (bit_faults args.picture.now args.out.now) = let args = c.args in
     next (le-ltb (length args.out.now) (eighths (length args.picture.now)) (omega (arith, c.eighths.ensures, c.if-out-eighths.false))) none in
     let args = c.args in
     let picture = args.picture.now in
@@ -23,4 +23,4 @@ returns-then-rest-gt0 c =
     let byte : c.last_byte.result ≡ f (n / 8) = c.last_byte.ensures in
     let all : n / 8 + 1 ≡ eighths n = omega (arith, c.if-rest-gt0.true) in
     let room : n / 8 < length old = omega (arith, c.eighths.ensures, c.if-out-eighths.false, c.if-rest-gt0.true) in
-    finishes (bit_faults picture old) tt (eighths n) f old _ room-left (rw all at (filled-one f old (n / 8) c.whole_bits.ensures byte room))
+    finishes (bit_faults picture old) tt (eighths n) f old _ room_left (rw all at (filled-one f old (n / 8) c.whole_bits.ensures byte room))

@@ -12,7 +12,7 @@ use Rattle.slots.proofs.palette_row.Goals as goal
 pub returns-in-Done : goal.returns-in-Done
 returns-in-Done c =
     let faults : List Fault = let args = c.args in palette_faults (length args.file.now) args.map args.slots (length args.raw.now) (length args.out.now) in
-    let sound : Sound (faults) = step-sound {fs = faults} c.check_palette.ensures c.in-Done.is in
+    let sound : Sound faults = step-sound {fs = faults} c.check_palette.ensures c.in-Done.is in
     let args = c.args in
     let bytes : Bytes args.file.now = λ i. omega (arith, c.type_inv.file i) in
     finishes faults tt (length args.out.now) (palette_at args.file.now args.map args.slots args.le args.raw.now) args.out.now _ sound

@@ -9,21 +9,25 @@ use Rattle.words.specs.Word.{word_at}
 use Rattle.words.proofs.Served.{served_eight}
 use Rattle.damage.specs.Marks.{struck_at}
 use Rattle.damage.proofs.Marking.{struck_byte, struck-word, struck-after}
+use Rattle.damage.proofs.own.struck.Goals.{Else-width-eq4}
 use Rattle.damage.proofs.own.struck.Goals as goal
 
 -- a word that was read tells whether its bytes are struck
 told : (width : ℕ) (damage : List ℕ) (at : ℕ) {x : ℕ} → x ≡ word_at damage at width true → not (eqb x 0) ≡ struck_at width damage at
 told width damage at e = ap (λ (w : ℕ). not (eqb w 0)) e ∙ struck-word width damage at
 
+-- the width that is left
+eight : (c : Else-width-eq4) → c.args.width ≡ 8
+eight c =
+    served_eight _ c.requires.0 c.if-width-eq1.false c.if-width-eq2.false c.if-width-eq3.false c.if-width-eq4.false
+
 pub word4-requires-else-width-eq4 : goal.word4-requires-else-width-eq4
 word4-requires-else-width-eq4 c =
-    let eight : c.args.width ≡ 8 = served_eight _ c.requires.0 c.if-width-eq1.false c.if-width-eq2.false c.if-width-eq3.false c.if-width-eq4.false in
-    omega (arith, eight, c.requires.1)
+    omega (arith, eight (goal.at.word4-requires-else-width-eq4 c).Else-width-eq4, c.requires.1)
 
 pub word4-requires-else-width-eq4-2 : goal.word4-requires-else-width-eq4-2
 word4-requires-else-width-eq4-2 c =
-    let eight : c.args.width ≡ 8 = served_eight _ c.requires.0 c.if-width-eq1.false c.if-width-eq2.false c.if-width-eq3.false c.if-width-eq4.false in
-    omega (arith, eight, c.requires.1)
+    omega (arith, eight (goal.at.word4-requires-else-width-eq4-2 c).Else-width-eq4, c.requires.1)
 
 pub returns-then-width-eq1 : goal.returns-then-width-eq1
 returns-then-width-eq1 c =
@@ -43,7 +47,6 @@ returns-then-width-eq4 c =
 
 pub returns-else-width-eq4 : goal.returns-else-width-eq4
 returns-else-width-eq4 c =
-    let eight : c.args.width ≡ 8 = served_eight _ c.requires.0 c.if-width-eq1.false c.if-width-eq2.false c.if-width-eq3.false c.if-width-eq4.false in
     let args = c.args in
     let damage = args.damage.now in
-    rw eight (rw (told 4 damage args.at c.word4-else-width-eq4.ensures, told 4 damage (args.at + 4) c.word4-else-width-eq4-2.ensures) (struck-after 4 4 damage args.at))
+    rw (eight (goal.at.returns-else-width-eq4 c).Else-width-eq4) (rw (told 4 damage args.at c.word4-else-width-eq4.ensures, told 4 damage (args.at + 4) c.word4-else-width-eq4-2.ensures) (struck-after 4 4 damage args.at))

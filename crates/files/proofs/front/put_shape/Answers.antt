@@ -5,7 +5,13 @@ use lib.ListN.{length}
 use mathlib.Core.Path.{refl}
 use Rattle.files.proofs.Holding.{wrote_on}
 use Rattle.files.proofs.Writing.{laid, entry_wrote}
+use Rattle.files.proofs.front.put_shape.Goals.{After-put_entry-3}
 use Rattle.files.proofs.front.put_shape.Goals as goal
+
+-- the buffer is as long as it was
+long : (c : After-put_entry-3) → 182 ≤ length c.put_entry-3.new.out
+long c =
+    omega (arith, laid c.requires, c.requires.room)
 
 pub put_entry-requires : goal.put_entry-requires
 put_entry-requires c =
@@ -21,13 +27,11 @@ put_entry-requires-3 c =
 
 pub put_entry-requires-4 : goal.put_entry-requires-4
 put_entry-requires-4 c =
-    let long : 182 ≤ length c.put_entry-3.new.out = omega (arith, laid c.requires, c.requires.room) in
-    omega (arith, long)
+    omega (arith, long (goal.at.put_entry-requires-4 c).After-put_entry-3)
 
 pub put_entry-requires-5 : goal.put_entry-requires-5
 put_entry-requires-5 c =
-    let long : 182 ≤ length c.put_entry-3.new.out = omega (arith, laid c.requires, c.requires.room) in
-    omega (arith, long)
+    omega (arith, long (goal.at.put_entry-requires-5 c).After-put_entry-3)
 
 pub returns : goal.returns
 returns c =

@@ -5,7 +5,18 @@ use Rattle.files.specs.File.{strips}
 use Rattle.files.proofs.Sizes.{strip-limit, strip_small, file_small, outside-within}
 use Rattle.files.proofs.Stripping.{Stripped, stripped_none, inside, bytes_are, stripped_on}
 use Rattle.files.proofs.Writing.{laid, length-wrote}
+use Rattle.files.proofs.tables.put_strips.Goals.{At-loop-k}
 use Rattle.files.proofs.tables.put_strips.Goals as goal
+
+-- the table's end
+within : (c : At-loop-k) → let p = c.args.p in c.choose-at.result + 4 * p.strips_outside ≤ p.resolutions
+within c =
+    inside c.requires c.args.places c.choose-at.ensures
+
+-- what is written so far
+so_far : (c : At-loop-k) → let args = c.args in Stripped args.f args.p c.choose-at.result c.loop-k.k c.loop-k.place c.loop-k.left args.out.now c.loop-k.out
+so_far c =
+    c.loop-k.invariant.1 c.args.f c.requires
 
 pub loop-k-init : goal.loop-k-init
 loop-k-init c =
@@ -21,23 +32,19 @@ overflow_mul-k c =
 
 pub overflow_add-at : goal.overflow_add-at
 overflow_add-at c =
-    let within : let p = c.args.p in c.choose-at.result + 4 * p.strips_outside ≤ p.resolutions = inside c.requires c.args.places c.choose-at.ensures in
-    omega (arith, laid c.requires, within, c.loop-k-test.true)
+    omega (arith, laid c.requires, within (goal.at.overflow_add-at c).At-loop-k, c.loop-k-test.true)
 
 pub put_long-requires : goal.put_long-requires
 put_long-requires c =
-    let so_far : let args = c.args in Stripped args.f args.p c.choose-at.result c.loop-k.k c.loop-k.place c.loop-k.left args.out.now c.loop-k.out = c.loop-k.invariant.1 c.args.f c.requires in
-    let within : let p = c.args.p in c.choose-at.result + 4 * p.strips_outside ≤ p.resolutions = inside c.requires c.args.places c.choose-at.ensures in
     let planned = c.requires in
-    omega (arith, laid planned, within, planned.room, c.loop-k-test.true, length-wrote so_far.wrote)
+    omega (arith, laid planned, within (goal.at.put_long-requires c).At-loop-k, planned.room, c.loop-k-test.true, length-wrote (so_far (goal.at.put_long-requires c).At-loop-k).wrote)
 
 pub overflow_add-place : goal.overflow_add-place
 overflow_add-place c =
-    let so_far : let args = c.args in Stripped args.f args.p c.choose-at.result c.loop-k.k c.loop-k.place c.loop-k.left args.out.now c.loop-k.out = c.loop-k.invariant.1 c.args.f c.requires in
     let f = c.args.f in
     let each = c.args.p.each in
     let k = c.loop-k.k in
-    omega (arith, so_far.stands, bytes_are c.requires so_far c.strip_bytes-bytes.ensures, strip_small f each c.requires.fit k (omega (arith, c.loop-k-test.true, outside-within 4 (strips f each), (laid c.requires).strips-outside)), file_small f each c.requires.fit)
+    omega (arith, (so_far (goal.at.overflow_add-place c).At-loop-k).stands, bytes_are c.requires (so_far (goal.at.overflow_add-place c).At-loop-k) c.strip_bytes-bytes.ensures, strip_small f each c.requires.fit k (omega (arith, c.loop-k-test.true, outside-within 4 (strips f each), (laid c.requires).strips-outside)), file_small f each c.requires.fit)
 
 pub loop-k-preserved : goal.loop-k-preserved
 loop-k-preserved c = (

@@ -7,19 +7,23 @@ use Rattle.answer.proofs.Promised.{refusing, finishing}
 use Rattle.layout.specs.Layout.{side_limit, byte_limit, output_length, size_faults}
 use Rattle.layout.proofs.Accepted.{served-few}
 use Rattle.layout.proofs.Sizes.{part_fits, whole-fits}
+use Rattle.layout.proofs.rules.check_size.Goals.{Else-f-gt-SIDE_LIMIT-2}
 use Rattle.layout.proofs.rules.check_size.Goals as goal
+
+-- what the first step has shown, where the product begins
+few : (c : Else-f-gt-SIDE_LIMIT-2) → let f = c.args.f in (f.ch ≤ 4) × (f.bytes ≤ 8)
+few c =
+    served-few c.args.f c.requires
 
 pub overflow_mul-f-2 : goal.overflow_mul-f-2
 unfolding output_length
 overflow_mul-f-2 c =
-    let few : let f = c.args.f in (f.ch ≤ 4) × (f.bytes ≤ 8) = served-few c.args.f c.requires in
-    let small = few in part_fits (omega arith) (omega arith) (omega arith)
+    let small = few (goal.at.overflow_mul-f-2 c).Else-f-gt-SIDE_LIMIT-2 in part_fits (omega arith) (omega arith) (omega arith)
 
 pub overflow_mul-f-3 : goal.overflow_mul-f-3
 unfolding output_length
 overflow_mul-f-3 c =
-    let few : let f = c.args.f in (f.ch ≤ 4) × (f.bytes ≤ 8) = served-few c.args.f c.requires in
-    let small = few in whole-fits (omega arith) (omega arith) (omega arith) (omega arith)
+    let small = few (goal.at.overflow_mul-f-3 c).Else-f-gt-SIDE_LIMIT-2 in whole-fits (omega arith) (omega arith) (omega arith) (omega arith)
 
 pub returns-then-f-gt-BYTE_LIMIT : goal.returns-then-f-gt-BYTE_LIMIT
 unfolding output_length

@@ -8,11 +8,11 @@ use lib.Dec.{eqb}
 use Rattle.laws.specs.Turns.{every}
 use Rattle.packbits.proofs.plans.alike.Given as goal
 
-abbrev same-as-first : List ℕ → ℕ → Bool
-same-as-first part k = eqb (get_or part k 0) (get_or part 0 0)
+abbrev same_as_first : List ℕ → ℕ → Bool
+same_as_first part k = eqb (get_or part k 0) (get_or part 0 0)
 
 abbrev pub invariant-loop-k : goal.invariant-loop-k
-invariant-loop-k l = (l.k ≤ length l.part) × (l.same ≡ every l.k (same-as-first l.part))
+invariant-loop-k l = (l.k ≤ length l.part) × (l.same ≡ every l.k (same_as_first l.part))
 
 abbrev pub decreases-loop-k : goal.decreases-loop-k
 decreases-loop-k l = length l.part - l.k

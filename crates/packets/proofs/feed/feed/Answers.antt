@@ -4,7 +4,12 @@ use Prim.Native.Nat.{◌≤◌}
 use lib.ListN.{length}
 use Rattle.packets.proofs.Wordstart.{served-width}
 use Rattle.packets.proofs.Finish.{fill_inside, hold_fits, short-fed, done-room, finishes, rest_from, all-fed}
+use Rattle.packets.proofs.feed.feed.Goals.{After-finish}
 use Rattle.packets.proofs.feed.feed.Goals as goal
+
+enough : (c : After-finish) → c.missing-head.result ≤ length c.args.bytes.now
+enough c =
+    omega arith
 
 pub past-fill-requires : goal.past-fill-requires
 past-fill-requires c =
@@ -32,10 +37,8 @@ finish-requires c =
 
 pub from_word-requires : goal.from_word-requires
 from_word-requires c =
-    let enough : c.missing-head.result ≤ length c.args.bytes.now = omega arith in
-    rest_from c.requires c.past-fill.result c.past-fill.ensures c.missing-head.result c.missing-head.ensures enough c.finish.ensures
+    rest_from c.requires c.past-fill.result c.past-fill.ensures c.missing-head.result c.missing-head.ensures (enough (goal.at.from_word-requires c).After-finish) c.finish.ensures
 
 pub returns : goal.returns
 returns c =
-    let enough : c.missing-head.result ≤ length c.args.bytes.now = omega arith in
-    all-fed c.requires c.past-fill.result c.past-fill.ensures c.missing-head.result c.missing-head.ensures enough c.finish.ensures c.from_word.ensures
+    all-fed c.requires c.past-fill.result c.past-fill.ensures c.missing-head.result c.missing-head.ensures (enough (goal.at.returns c).After-finish) c.finish.ensures c.from_word.ensures

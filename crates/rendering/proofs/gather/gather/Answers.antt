@@ -6,17 +6,25 @@ use Rattle.layout.specs.Layout.{byte_limit}
 use Rattle.pixels.specs.Render.{plane_row}
 use Rattle.words.specs.Word.{Bytes}
 use Rattle.rendering.proofs.Rowwise.{plane_row_end, plane_limited, planes-fit, planes_gathered, part_inside, together_gathered}
+use Rattle.rendering.proofs.gather.gather.Goals.{Else-l, Start}
 use Rattle.rendering.proofs.gather.gather.Goals as goal
+
+-- the row's first byte is one of the planes
+small : (c : Start) → let l = c.args.l in c.args.y * plane_row l + plane_row l ≤ byte_limit
+small c =
+    omega (arith, plane_row_end c.requires, plane_limited c.requires)
+
+inside : (c : Else-l) → c.args.y * plane_row c.args.l + length c.args.out.now ≤ length c.args.raw.now
+inside c =
+    part_inside c.requires c.if-l.false
 
 pub overflow_mul-from : goal.overflow_mul-from
 overflow_mul-from c =
-    let small : let l = c.args.l in c.args.y * plane_row l + plane_row l ≤ byte_limit = omega (arith, plane_row_end c.requires, plane_limited c.requires) in
-    record { fits = omega (arith, small) }
+    record { fits = omega (arith, small (goal.at.overflow_mul-from c).Start) }
 
 pub overflow_mul-from-2 : goal.overflow_mul-from-2
 overflow_mul-from-2 c =
-    let small : let l = c.args.l in c.args.y * plane_row l + plane_row l ≤ byte_limit = omega (arith, plane_row_end c.requires, plane_limited c.requires) in
-    record { fits = omega (arith, small) }
+    record { fits = omega (arith, small (goal.at.overflow_mul-from-2 c).Start) }
 
 pub known_planes-requires : goal.known_planes-requires
 known_planes-requires c =
@@ -24,13 +32,11 @@ known_planes-requires c =
 
 pub overflow_add-end : goal.overflow_add-end
 overflow_add-end c =
-    let inside : c.args.y * plane_row c.args.l + length c.args.out.now ≤ length c.args.raw.now = part_inside c.requires c.if-l.false in
-    omega (arith, inside, c.well_formed)
+    omega (arith, inside (goal.at.overflow_add-end c).Else-l, c.well_formed)
 
 pub slice_bounds-reorder-end : goal.slice_bounds-reorder-end
 slice_bounds-reorder-end c =
-    let inside : c.args.y * plane_row c.args.l + length c.args.out.now ≤ length c.args.raw.now = part_inside c.requires c.if-l.false in
-    inside
+    inside (goal.at.slice_bounds-reorder-end c).Else-l
 
 pub returns-then-l : goal.returns-then-l
 returns-then-l c =

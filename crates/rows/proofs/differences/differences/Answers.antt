@@ -3,7 +3,13 @@ use Rattle.std.proofs.Common.{ℕ, ◌+◌, ◌≤◌, length, ap, ◌∙◌, ar
 use Rattle.words.specs.Word.{Bytes, word_at, minus}
 use Rattle.words.proofs.Words.{word_below}
 use Rattle.rows.proofs.Loops.{led_upto, trail_room, difference_turned}
+use Rattle.rows.proofs.differences.differences.Goals.{In-loop-at}
 use Rattle.rows.proofs.differences.differences.Goals as goal
+
+-- a whole word is there
+room : (c : In-loop-at) → c.loop-at.at + c.args.width ≤ length c.args.raw.now
+room c =
+    trail_room c.requires.1.fits c.loop-at.invariant.0 c.loop-at.invariant.1 c.loop-at-test.true
 
 pub loop-at-init : goal.loop-at-init
 loop-at-init c =
@@ -11,8 +17,7 @@ loop-at-init c =
 
 pub get-requires : goal.get-requires
 get-requires c =
-    let room : c.loop-at.at + c.args.width ≤ length c.args.raw.now = trail_room c.requires.1.fits c.loop-at.invariant.0 c.loop-at.invariant.1 c.loop-at-test.true in
-    (c.requires.0, room)
+    (c.requires.0, room (goal.at.get-requires c).In-loop-at)
 
 pub sub-less-requires : goal.sub-less-requires
 sub-less-requires c =
@@ -22,8 +27,7 @@ sub-less-requires c =
 
 pub put-requires : goal.put-requires
 put-requires c =
-    let room : c.loop-at.at + c.args.width ≤ length c.args.raw.now = trail_room c.requires.1.fits c.loop-at.invariant.0 c.loop-at.invariant.1 c.loop-at-test.true in
-    (c.requires.0, omega (arith, room, c.loop-at.invariant.0.same, c.requires.1.fits.room))
+    (c.requires.0, omega (arith, room (goal.at.put-requires c).In-loop-at, c.loop-at.invariant.0.same, c.requires.1.fits.room))
 
 pub loop-at-preserved : goal.loop-at-preserved
 loop-at-preserved c =

@@ -1,17 +1,21 @@
 -- `rows::resume::words` meets its contract: the invariant and its laws are in proofs/Running.antt. Assumes nothing.
 use Rattle.std.proofs.Common.{◌+◌, ◌≤◌, length, arith}
 use Rattle.rows.proofs.Running.{run_room, run_turned}
+use Rattle.rows.proofs.resume.words.Goals.{In-loop-at}
 use Rattle.rows.proofs.resume.words.Goals as goal
+
+-- a whole word is there, and its channel's sum
+room : (c : In-loop-at) → c.loop-at.at + c.args.width ≤ length c.args.raw.now
+room c =
+    run_room _ _ _ _ _ _ _ _ c.requires c.loop-at.invariant c.loop-at-test.true
 
 pub sum-sample-requires : goal.sum-sample-requires
 sum-sample-requires c =
-    let room : c.loop-at.at + c.args.width ≤ length c.args.raw.now = run_room _ _ _ _ _ _ _ _ c.requires c.loop-at.invariant c.loop-at-test.true in
-    (c.requires.takes, room)
+    (c.requires.takes, room (goal.at.sum-sample-requires c).In-loop-at)
 
 pub put-requires : goal.put-requires
 put-requires c =
-    let room : c.loop-at.at + c.args.width ≤ length c.args.raw.now = run_room _ _ _ _ _ _ _ _ c.requires c.loop-at.invariant c.loop-at-test.true in
-    (c.requires.takes, omega (arith, room, c.loop-at.invariant.upto.same, c.requires.same))
+    (c.requires.takes, omega (arith, room (goal.at.put-requires c).In-loop-at, c.loop-at.invariant.upto.same, c.requires.same))
 
 pub loop-at-preserved : goal.loop-at-preserved
 loop-at-preserved c =

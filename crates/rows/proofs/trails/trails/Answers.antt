@@ -2,7 +2,13 @@
 use Rattle.std.proofs.Common.{◌+◌, ◌≤◌, length, ap, ◌∙◌, arith}
 use Rattle.words.specs.Word.{word_at, plus}
 use Rattle.rows.proofs.Loops.{led_upto, trail_room, trail_turned}
+use Rattle.rows.proofs.trails.trails.Goals.{In-loop-at}
 use Rattle.rows.proofs.trails.trails.Goals as goal
+
+-- a whole word is there
+room : (c : In-loop-at) → c.loop-at.at + c.args.width ≤ length c.args.raw.now
+room c =
+    trail_room c.requires.1.fits c.loop-at.invariant.0 c.loop-at.invariant.1 c.loop-at-test.true
 
 pub loop-at-init : goal.loop-at-init
 loop-at-init c =
@@ -10,13 +16,11 @@ loop-at-init c =
 
 pub sum-sample-requires : goal.sum-sample-requires
 sum-sample-requires c =
-    let room : c.loop-at.at + c.args.width ≤ length c.args.raw.now = trail_room c.requires.1.fits c.loop-at.invariant.0 c.loop-at.invariant.1 c.loop-at-test.true in
-    (c.requires.0, room)
+    (c.requires.0, room (goal.at.sum-sample-requires c).In-loop-at)
 
 pub put-requires : goal.put-requires
 put-requires c =
-    let room : c.loop-at.at + c.args.width ≤ length c.args.raw.now = trail_room c.requires.1.fits c.loop-at.invariant.0 c.loop-at.invariant.1 c.loop-at-test.true in
-    let free : c.loop-at.at + c.args.width ≤ length c.loop-at.out = omega (arith, room, c.loop-at.invariant.0.same, c.requires.1.fits.room) in
+    let free : c.loop-at.at + c.args.width ≤ length c.loop-at.out = omega (arith, room (goal.at.put-requires c).In-loop-at, c.loop-at.invariant.0.same, c.requires.1.fits.room) in
     (c.requires.0, omega (arith, free))
 
 pub loop-at-preserved : goal.loop-at-preserved

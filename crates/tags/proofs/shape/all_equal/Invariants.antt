@@ -9,11 +9,11 @@ use mathlib.Core.List.{List}
 use mathlib.Core.Path.{◌≡◌}
 use Rattle.tags.proofs.shape.all_equal.Given as goal
 
-abbrev same-as-first : List ℕ → Bool → Field → ℕ → Bool
-same-as-first file le bits j = eqb (value_of file le bits j) (value_of file le bits 0)
+abbrev same_as_first : List ℕ → Bool → Field → ℕ → Bool
+same_as_first file le bits j = eqb (value_of file le bits j) (value_of file le bits 0)
 
 abbrev pub invariant-loop-j : goal.invariant-loop-j
-invariant-loop-j l = (l.j ≤ l.bits.count) × (l.same ≡ every l.j (same-as-first l.file l.le l.bits))
+invariant-loop-j l = (l.j ≤ l.bits.count) × (l.same ≡ every l.j (same_as_first l.file l.le l.bits))
 
 abbrev pub decreases-loop-j : goal.decreases-loop-j
 decreases-loop-j l = l.bits.count - l.j

@@ -2,22 +2,24 @@
 use native.Mathlib.Omega.{arith}
 use Prim.Native.Nat.{◌<◌}
 use Rattle.writing.proofs.Planewise.{plane_room, plane_next, planes_ended}
+use Rattle.writing.proofs.planar.write_apart.Goals.{In-loop-c}
 use Rattle.writing.proofs.planar.write_apart.Goals as goal
+
+more : (c : In-loop-c) → c.loop-c.c < c.args.l.fields.ch
+more c =
+    omega (arith, c.loop-c-test.true)
 
 pub overflow_add-end : goal.overflow_add-end
 overflow_add-end c =
-    let more : c.loop-c.c < c.args.l.fields.ch = omega (arith, c.loop-c-test.true) in
-    omega (arith, plane_room c.requires c.loop-c.invariant more)
+    omega (arith, plane_room c.requires c.loop-c.invariant (more (goal.at.overflow_add-end c).In-loop-c))
 
 pub slice_bounds-write_plane-end : goal.slice_bounds-write_plane-end
 slice_bounds-write_plane-end c =
-    let more : c.loop-c.c < c.args.l.fields.ch = omega (arith, c.loop-c-test.true) in
-    omega (arith, plane_room c.requires c.loop-c.invariant more, c.loop-c.invariant.same)
+    omega (arith, plane_room c.requires c.loop-c.invariant (more (goal.at.slice_bounds-write_plane-end c).In-loop-c), c.loop-c.invariant.same)
 
 pub loop-c-preserved : goal.loop-c-preserved
 loop-c-preserved c =
-    let more : c.loop-c.c < c.args.l.fields.ch = omega (arith, c.loop-c-test.true) in
-    plane_next c.requires c.loop-c.invariant more _ c.write_plane.ensures
+    plane_next c.requires c.loop-c.invariant (more (goal.at.loop-c-preserved c).In-loop-c) _ c.write_plane.ensures
 
 pub returns : goal.returns
 returns c =
