@@ -1,5 +1,6 @@
 -- What every promise gives: one answer and one content of the buffer, which a refusal leaves as it was and success changes at its front alone;
 -- and of a list of faults: the refusal given is that of the first fault, and is given only then. Assumes nothing.
+use Rattle.std.specs.Prelude.{Ok, Err}
 use Prim.{Unit}
 use Prim.Native.Nat.{ℕ, zero, suc, ◌≤◌}
 use mathlib.Core.Path.{◌≡◌, refl, sym, ap, ◌∙◌}
@@ -11,11 +12,10 @@ use lib.ListN.{length, take, drop, length-append, length-drop}
 use lib.Seq.{take-append_seam, drop-append_seam}
 use Rattle.answer.specs.declared.Refusal.{Refusal}
 use Rattle.answer.specs.declared.Refusal.TheVariants.{Unsupported, Invalid, Truncated, OutputTooSmall, Limit}
-use Rattle.answer.specs.declared.Done.{Done}
-use Rattle.answer.specs.declared.Done.TheVariants as DoneIs
 use Rattle.answer.specs.Table.{table, filled}
 use Rattle.answer.proofs.Filling.{whole, length-table}
-use Rattle.answer.specs.Outcome.{Outcome, done, refused, Fault, unless, Promise, after, number, done_outcome, Step, First, here, later, Sound, none, next}
+use Rattle.answer.specs.declared.ByteAt.{ByteAt}
+use Rattle.answer.specs.Outcome.{Answer, place_outcome, Outcome, done, refused, Fault, unless, Promise, after, number, Step, First, here, later, Sound, none, next, outcome, Done}
 
 -- two outcomes that one promise allows are the same
 pub determined : {A : Type 0} {o : Outcome A} {w old : List ℕ} (a b : Outcome A) (x y : List ℕ) → Promise o w old a x → Promise o w old b y → (a ≡ b) × (x ≡ y)
@@ -115,11 +115,11 @@ pub refused_told : {A : Type 0} (fs : List Fault) (a : A) (r : Refusal) → refu
 refused_told fs a r e = refused-first fs a (number r) (sym e)
 
 -- what an answer says of the faults that were looked for
-pub passed : (fs : List Fault) (a : Done) → done_outcome a ≡ unless fs tt → a ≡ DoneIs.Done → Sound fs
-passed fs a p e = done-sound fs tt tt (sym p ∙ ap done_outcome e)
+pub passed : (fs : List Fault) (a : Done) → outcome a ≡ unless fs tt → a ≡ (Ok tt) → Sound fs
+passed fs a p e = done-sound fs tt tt (sym p ∙ ap outcome e)
 
-pub stopped : (fs : List Fault) (a : Done) (k : Refusal) → done_outcome a ≡ unless fs tt → a ≡ DoneIs.Refused k → First fs (number k)
-stopped fs a k p e = refused_told fs tt k (sym (ap done_outcome e) ∙ p)
+pub stopped : (fs : List Fault) (a : Done) (k : Refusal) → outcome a ≡ unless fs tt → a ≡ Err k → First fs (number k)
+stopped fs a k p e = refused_told fs tt k (sym (ap outcome e) ∙ p)
 
 -- with no fault in the first list the second decides
 pub sound_skip : {A : Type 0} {fs : List Fault} (gs : List Fault) (a : A) → Sound fs → unless (fs ++ gs) a ≡ unless gs a
@@ -178,36 +178,47 @@ kind-number Truncated = refl
 kind-number OutputTooSmall = refl
 kind-number Limit = refl
 
-abbrev back : Outcome (Unit {0}) → Done
-back (done x) = DoneIs.Done
-back (refused n) = DoneIs.Refused (kind n)
+abbrev back : {A : Type 0} → Outcome A → Answer A
+back (done a) = Ok a
+back (refused n) = Err (kind n)
 
-back_done : (a : Done) → back (done_outcome a) ≡ a
-back_done DoneIs.Done = refl
-back_done (DoneIs.Refused k) = ap DoneIs.Refused (kind-number k)
+back_told : {A : Type 0} (a : Answer A) → back (outcome a) ≡ a
+back_told (Ok a) = refl
+back_told (Err k) = ap Err (kind-number k)
+
+abbrev place_back : Outcome ℕ → Answer ByteAt
+place_back (done n) = Ok (record { 0 = n })
+place_back (refused n) = Err (kind n)
+
+place_told : (a : Answer ByteAt) → place_back (place_outcome a) ≡ a
+place_told (Ok at) = refl
+place_told (Err k) = ap Err (kind-number k)
 
 -- so answers of one outcome are one answer
 pub once : {R O : Type 0} (to : R → O) (from : O → R) → ((r : R) → from (to r) ≡ r) → (a b : R) → to a ≡ to b → a ≡ b
 once to from same a b e = sym (same a) ∙ ap from e ∙ same b
 
-pub done_once : (a b : Done) → done_outcome a ≡ done_outcome b → a ≡ b
-done_once = once done_outcome back back_done
+pub answer_once : {A : Type 0} (a b : Answer A) → outcome a ≡ outcome b → a ≡ b
+answer_once = once outcome back back_told
 
--- one promise of a call that answers `Done` allows one answer and one content of the buffer
-pub done_determined : {o : Outcome (Unit {0})} {w old : List ℕ} (a b : Done) (x y : List ℕ) → Promise o w old (done_outcome a) x → Promise o w old (done_outcome b) y → (a ≡ b) × (x ≡ y)
-done_determined a b x y p q =
-    let one = determined (done_outcome a) (done_outcome b) x y p q in (done_once a b one.0, one.1)
+pub place_once : (a b : Answer ByteAt) → place_outcome a ≡ place_outcome b → a ≡ b
+place_once = once place_outcome place_back place_told
+
+-- one promise of a call allows one answer and one content of the buffer
+pub answer_determined : {A : Type 0} {o : Outcome A} {w old : List ℕ} (a b : Answer A) (x y : List ℕ) → Promise o w old (outcome a) x → Promise o w old (outcome b) y → (a ≡ b) × (x ≡ y)
+answer_determined a b x y p q =
+    let one = determined (outcome a) (outcome b) x y p q in (answer_once a b one.0, one.1)
 
 -- what a step says of its faults
-pub step-sound : {fs : List Fault} {a : Done} → Step fs a → a ≡ DoneIs.Done → Sound fs
+pub step-sound : {fs : List Fault} {a : Done} → Step fs a → a ≡ (Ok tt) → Sound fs
 step-sound {fs} {a} p e = passed fs a p.passed e
 
-pub step-first : {fs : List Fault} {a : Done} {k : Refusal} → Step fs a → a ≡ DoneIs.Refused k → First fs (number k)
+pub step-first : {fs : List Fault} {a : Done} {k : Refusal} → Step fs a → a ≡ Err k → First fs (number k)
 step-first {fs} {a} {k} p e = stopped fs a k p.passed e
 
 -- steps one after another: a refusal stands, and where there is none the later list decides
-pub step-refused : {fs : List Fault} (gs : List Fault) {a : Done} {k : Refusal} → Step fs a → a ≡ DoneIs.Refused k → Step (fs ++ gs) (DoneIs.Refused k)
+pub step-refused : {fs : List Fault} (gs : List Fault) {a : Done} {k : Refusal} → Step fs a → a ≡ Err k → Step (fs ++ gs) (Err k)
 step-refused {fs} gs p e = record { passed = refusing (fs ++ gs) tt (first_more gs (step-first p e)) }
 
-pub step-on : {fs gs : List Fault} {a b : Done} → Step fs a → a ≡ DoneIs.Done → Step gs b → Step (fs ++ gs) b
+pub step-on : {fs gs : List Fault} {a b : Done} → Step fs a → a ≡ (Ok tt) → Step gs b → Step (fs ++ gs) b
 step-on {fs} {gs} p e q = record { passed = q.passed ∙ sym (sound_skip gs tt (step-sound p e)) }

@@ -1,11 +1,10 @@
 -- What a call comes to, and what a promise says of it.
 -- Every promise of every crate is put together from these parts. Assumes nothing.
 use Prim.{Unit}
-use Rattle.std.specs.Prelude.{ℕ, ◌≡◌, Bool, true, false, not, List, [], ◌∷◌, ◌++◌, length, drop}
+use Rattle.std.specs.Prelude.{ℕ, ◌≡◌, Bool, true, false, not, List, [], ◌∷◌, ◌++◌, length, drop, Result, Ok, Err}
 use Rattle.answer.specs.declared.Refusal.{Refusal}
+use Rattle.answer.specs.declared.ByteAt.{ByteAt}
 use Rattle.answer.specs.declared.Refusal.TheVariants.{Unsupported, Invalid, Truncated, OutputTooSmall, Limit}
-use Rattle.answer.specs.declared.Done.{Done}
-use Rattle.answer.specs.declared.Done.TheVariants as DoneIs
 
 -- rule 1.1's number of a kind
 abbrev pub number : Refusal → ℕ
@@ -69,14 +68,26 @@ pub record Promise {A : Type 0} (outcome : Outcome A) (written old : List ℕ) (
   pub answers : answer ≡ outcome
   pub leaves : new ≡ after outcome written old
 
--- rule 1.1's number and the values of an answer
-abbrev pub done_outcome : Done → Outcome (Unit {0})
-done_outcome DoneIs.Done = done tt
-done_outcome (DoneIs.Refused k) = refused (number k)
+-- what a call answers: a value or a refusal; and where its work is all in a lent buffer, that it is done
+abbrev pub Answer : Type 0 → Type 0
+Answer A = Result A Refusal
+
+abbrev pub Done : Type 0
+Done = Answer (Unit {0})
+
+-- what an answer comes to: its value, or rule 1.1's number of the refusal
+abbrev pub outcome : {A : Type 0} → Answer A → Outcome A
+outcome (Ok a) = done a
+outcome (Err k) = refused (number k)
+
+-- the same of a place in bytes
+abbrev pub place_outcome : Answer ByteAt → Outcome ℕ
+place_outcome (Ok at) = done at.0
+place_outcome (Err k) = refused (number k)
 
 -- a step that looked for faults and answered the first: a record, so that its list is told from its type
 pub record Step (faults : List Fault) (answer : Done) : Type 0 where
-  pub passed : done_outcome answer ≡ unless faults tt
+  pub passed : outcome answer ≡ unless faults tt
 
 abbrev pub fault_of : Bool → Refusal → Fault
 fault_of found kind = record { found = found; kind = number kind }

@@ -1,10 +1,10 @@
 -- A layout as C has it: a list of numbers, four of them flags that are 0 or 1. Any other flag is Unsupported, in step 1 of the layout's faults, after
 -- alpha; all of that step have this one number, so a flag can be looked at first (rule 9.4; proofs/Flags.antt). Assumes nothing.
-use Rattle.std.specs.Prelude.{ℕ, ◌≡◌, Bool, true, false, not, ◌||◌, List, get_or, eqb, ltb}
+use Rattle.layout.specs.declared.RasterLayout.{RasterLayout}
+use Rattle.std.specs.Prelude.{ℕ, ◌≡◌, Bool, true, false, not, ◌||◌, List, get_or, eqb, ltb, Err}
 use Rattle.answer.specs.declared.Refusal.TheVariants.{Unsupported}
+use Rattle.answer.specs.Outcome.{Answer}
 use Rattle.layout.specs.declared.Fields.{Fields}
-use Rattle.layout.specs.declared.Checked.{Checked}
-use Rattle.layout.specs.declared.Checked.TheVariants as CheckedIs
 use Rattle.layout.specs.Layout.{LayoutChecked}
 
 -- number n, taken as a flag
@@ -41,5 +41,5 @@ pub record OnLayout (s : List ℕ) (Promised : Fields → Type 0) (Unserved : Ty
 abbrev pub RefusedUnserved : {A : Type 0} → ℕ → A → A → Type 0
 RefusedUnserved r old new = (r ≡ 1) × (new ≡ old)
 
-abbrev pub Asked : List ℕ → Checked → Type 0
-Asked s answer = OnLayout s (λ f. LayoutChecked f answer) (answer ≡ CheckedIs.Refused Unsupported)
+abbrev pub Asked : List ℕ → Answer RasterLayout → Type 0
+Asked s answer = OnLayout s (λ f. LayoutChecked f answer) (answer ≡ Err Unsupported)

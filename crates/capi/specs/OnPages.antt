@@ -1,11 +1,10 @@
 -- What the calls that read directories lend back: a page as twenty-one numbers, and a strip's place and length (rule 9.7). Assumes nothing.
 use Rattle.std.specs.Prelude.{ℕ, Bool, List, [], ◌∷◌, ◌++◌}
-use Rattle.answer.specs.Outcome.{Outcome, pick}
+use Rattle.answer.specs.Outcome.{Outcome, pick, outcome, Answer}
+use Rattle.answer.specs.declared.ByteAt.{ByteAt}
 use Rattle.layout.specs.declared.Fields.{Fields}
 use Rattle.directory.specs.declared.Page.{Page}
-use Rattle.directory.specs.declared.Found.{Found}
-use Rattle.directory.specs.declared.Place.{Place}
-use Rattle.directory.specs.Page.{Part, found_outcome, place_outcome}
+use Rattle.directory.specs.Page.{Part, place_outcome}
 use Rattle.capi.specs.Told.{taking, derived_of}
 
 -- a flag as a number
@@ -31,11 +30,11 @@ layout_of f =
 abbrev pub numbers_of : Page → List ℕ
 numbers_of p = layout_of p.layout.fields ++ (derived_of p.layout ++ (p.predictor ∷ p.strips ∷ p.compression ∷ []))
 
-abbrev pub found_numbers : Found → Outcome (List ℕ)
-found_numbers answer = taking numbers_of (found_outcome answer)
+abbrev pub found_numbers : Answer Page → Outcome (List ℕ)
+found_numbers answer = taking numbers_of (outcome answer)
 
 abbrev pub pair_of : Part → ℕ × ℕ
 pair_of p = (p.at, p.bytes)
 
-abbrev pub place_numbers : Place → Outcome (ℕ × ℕ)
+abbrev pub place_numbers : (Answer (ByteAt × ℕ)) → Outcome (ℕ × ℕ)
 place_numbers answer = taking pair_of (place_outcome answer)

@@ -1,10 +1,8 @@
 -- What a call from C promises: the number of an answer that the promise of the crate which does the work allows, and what is lent back.
 -- Every call but `hamrisk_reverse_bits`, which never refuses, has one of these promises. Assumes nothing.
 use Rattle.std.specs.Prelude.{ℕ, ◌≡◌, List, [], ◌∷◌}
-use Rattle.answer.specs.Outcome.{Outcome, done, refused, done_outcome}
+use Rattle.answer.specs.Outcome.{Outcome, done, refused, outcome, Answer}
 use Rattle.layout.specs.declared.RasterLayout.{RasterLayout}
-use Rattle.layout.specs.declared.Checked.{Checked}
-use Rattle.layout.specs.Layout.{checked_outcome}
 use Rattle.packets.specs.declared.Plan.{Plan}
 use Rattle.packets.specs.declared.Started.{Started}
 use Rattle.packets.specs.Promises.{Begun}
@@ -37,7 +35,7 @@ pub record Lent {D A : Type 0} (outcome : D → Outcome A) (Allowed : D → Type
 pub record StartTold (p : Plan) (r : ℕ) (new : List ℕ) : Type 0 where
   pub answer : Started
   pub allowed : Begun p answer
-  pub number_is : r ≡ status (done_outcome answer.answer)
+  pub number_is : r ≡ status (outcome answer.answer)
   pub stands : Stands answer.state new
 
 -- an outcome of which f of the value is lent back
@@ -50,5 +48,5 @@ abbrev pub derived_of : RasterLayout → List ℕ
 derived_of l =
     l.encoded_width ∷ l.plane_channels ∷ l.planes ∷ l.plane_len ∷ l.scratch_len ∷ l.output_len ∷ l.colors ∷ []
 
-abbrev pub derived_outcome : Checked → Outcome (List ℕ)
-derived_outcome answer = taking derived_of (checked_outcome answer)
+abbrev pub derived_outcome : Answer RasterLayout → Outcome (List ℕ)
+derived_outcome answer = taking derived_of (outcome answer)

@@ -1,17 +1,16 @@
 // The calls that take a layout, which comes in as the numbers of include/hamrisk.h's hamrisk_layout, in its order.
 ghost use Rattle.std.specs.Prelude.{◌≡◌, List, ℕ};
-ghost use Rattle.answer.specs.Outcome.{done_outcome};
-ghost use Rattle.layout.specs.Layout.{completed, LayoutChecked, Indexed, place_outcome};
+ghost use Rattle.answer.specs.Outcome.{outcome, place_outcome};
+ghost use Rattle.layout.specs.Layout.{completed, LayoutChecked, Indexed};
 ghost use Rattle.pixels.specs.Render.{Rendered};
 ghost use Rattle.pixels.specs.Planes.{Written as PlanesWritten};
-ghost use Rattle.files.specs.File.{written_outcome, Measured, FileWritten};
+ghost use Rattle.files.specs.File.{Measured, FileWritten};
 ghost use Rattle.capi.specs.Told.{Told, Lent, derived_of, derived_outcome};
 ghost use Rattle.capi.specs.OnLayouts.{fields_of, flagged as flaggedOf, OnLayout, Asked, RefusedUnserved};
 
 use crate::status;
 use answer::{ByteAt, Refusal};
-use files::Written;
-use layout::{Checked, Fields, Place, RasterLayout};
+use layout::{Fields, RasterLayout};
 
 type Layout = [usize; 11];
 
@@ -51,11 +50,11 @@ fn flagged(s: &Layout) -> bool
 }
 
 // The record that is asked for.
-fn asked(s: &Layout) -> Checked
+fn asked(s: &Layout) -> Result<RasterLayout, Refusal>
     ensures { Asked s.now result }
 {
     if flagged(s) {
-        return Checked::Refused(Refusal::Unsupported);
+        return Err(Refusal::Unsupported);
     }
     layout::check_layout(fields_of(s))
 }
@@ -81,8 +80,8 @@ pub extern "C" fn hamrisk_check_layout(layout: &Layout, derived: &mut [usize; 7]
     ensures { OnLayout layout.now (λ f. Lent derived_outcome (LayoutChecked f) result derived.old derived.new) (RefusedUnserved result derived.old derived.new) }
 {
     match asked(layout) {
-        Checked::Refused(kind) => answer::number(kind),
-        Checked::Done(l) => {
+        Err(kind) => answer::number(kind),
+        Ok(l) => {
             *derived = derived_of(l);
             0
         }
@@ -94,8 +93,8 @@ fn place_of(l: RasterLayout, k: usize, place: &mut usize) -> u32
     ensures { Lent place_outcome (Indexed l k) result place.old place.new }
 {
     match layout::index(l, ByteAt(k)) {
-        Place::Refused(kind) => answer::number(kind),
-        Place::Done(p) => {
+        Err(kind) => answer::number(kind),
+        Ok(p) => {
             *place = p.0;
             0
         }
@@ -108,40 +107,40 @@ pub extern "C" fn hamrisk_index(layout: &Layout, k: usize, place: &mut usize) ->
     ensures { OnLayout layout.now (λ f. Lent place_outcome (Indexed (completed f) k) result place.old place.new) (RefusedUnserved result place.old place.new) }
 {
     match asked(layout) {
-        Checked::Refused(kind) => answer::number(kind),
-        Checked::Done(l) => place_of(l, k, place),
+        Err(kind) => answer::number(kind),
+        Ok(l) => place_of(l, k, place),
     }
 }
 
 // The picture that planes of this layout hold; `file` has the colours of a palette.
 #[unsafe(no_mangle)]
 pub extern "C" fn hamrisk_render(layout: &Layout, file: &[u8], raw: &[u8], out: &mut [u8]) -> u32
-    ensures { OnLayout layout.now (λ f. Told done_outcome (λ d. Rendered (completed f) file.now raw.now out.old d out.new) result) (RefusedUnserved result out.old out.new) }
+    ensures { OnLayout layout.now (λ f. Told outcome (λ d. Rendered (completed f) file.now raw.now out.old d out.new) result) (RefusedUnserved result out.old out.new) }
 {
     match asked(layout) {
-        Checked::Refused(kind) => answer::number(kind),
-        Checked::Done(l) => status(rendering::render(l, file, raw, out)),
+        Err(kind) => answer::number(kind),
+        Ok(l) => status(rendering::render(l, file, raw, out)),
     }
 }
 
 // The planes whose rendering is a picture.
 #[unsafe(no_mangle)]
 pub extern "C" fn hamrisk_write_planes(layout: &Layout, picture: &[u8], planes: &mut [u8]) -> u32
-    ensures { OnLayout layout.now (λ f. Told done_outcome (λ d. PlanesWritten (completed f) picture.now planes.old d planes.new) result) (RefusedUnserved result planes.old planes.new) }
+    ensures { OnLayout layout.now (λ f. Told outcome (λ d. PlanesWritten (completed f) picture.now planes.old d planes.new) result) (RefusedUnserved result planes.old planes.new) }
 {
     match asked(layout) {
-        Checked::Refused(kind) => answer::number(kind),
-        Checked::Done(l) => status(writing::write_planes(l, picture, planes)),
+        Err(kind) => answer::number(kind),
+        Ok(l) => status(writing::write_planes(l, picture, planes)),
     }
 }
 
 // What a file's answer says: its length is lent back.
-fn length_of(w: Written, length: &mut usize) -> u32
-    ensures { Lent written_outcome (λ a. a ≡ w) result length.old length.new }
+fn length_of(w: Result<usize, Refusal>, length: &mut usize) -> u32
+    ensures { Lent outcome (λ a. a ≡ w) result length.old length.new }
 {
     match w {
-        Written::Refused(kind) => answer::number(kind),
-        Written::Length(n) => {
+        Err(kind) => answer::number(kind),
+        Ok(n) => {
             *length = n;
             0
         }
@@ -155,11 +154,11 @@ pub extern "C" fn hamrisk_file_length(
     rows_per_strip: usize,
     length: &mut usize,
 ) -> u32
-    ensures { OnLayout layout.now (λ f. Lent written_outcome (Measured (completed f) rows_per_strip) result length.old length.new) (RefusedUnserved result length.old length.new) }
+    ensures { OnLayout layout.now (λ f. Lent outcome (Measured (completed f) rows_per_strip) result length.old length.new) (RefusedUnserved result length.old length.new) }
 {
     match asked(layout) {
-        Checked::Refused(kind) => answer::number(kind),
-        Checked::Done(l) => length_of(files::file_length(l, rows_per_strip), length),
+        Err(kind) => answer::number(kind),
+        Ok(l) => length_of(files::file_length(l, rows_per_strip), length),
     }
 }
 
@@ -172,10 +171,10 @@ pub extern "C" fn hamrisk_write_file(
     out: &mut [u8],
     length: &mut usize,
 ) -> u32
-    ensures { OnLayout layout.now (λ f. Lent written_outcome (λ a. FileWritten (completed f) rows_per_strip planes.now out.old a out.new) result length.old length.new) (RefusedUnserved {A = ℕ × List ℕ} result (length.old, out.old) (length.new, out.new)) }
+    ensures { OnLayout layout.now (λ f. Lent outcome (λ a. FileWritten (completed f) rows_per_strip planes.now out.old a out.new) result length.old length.new) (RefusedUnserved {A = ℕ × List ℕ} result (length.old, out.old) (length.new, out.new)) }
 {
     match asked(layout) {
-        Checked::Refused(kind) => answer::number(kind),
-        Checked::Done(l) => length_of(files::write_file(l, rows_per_strip, planes, out), length),
+        Err(kind) => answer::number(kind),
+        Ok(l) => length_of(files::write_file(l, rows_per_strip, planes, out), length),
     }
 }

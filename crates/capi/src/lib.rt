@@ -2,7 +2,7 @@
 // refusal; a value comes back through a lent number, which a refusal leaves as it was.
 #![tactic(auto)]
 
-use answer::{ByteAt, Done, SampleAt};
+use answer::{ByteAt, Refusal, SampleAt};
 
 mod layouts;
 mod packing;
@@ -10,22 +10,22 @@ mod pages;
 mod states;
 
 ghost use Rattle.std.specs.Prelude.{◌≡◌};
-ghost use Rattle.answer.specs.Outcome.{done_outcome};
-ghost use Rattle.words.specs.Promises.{ReadWord, LoadedWord, word_outcome, loaded_outcome};
+ghost use Rattle.answer.specs.Outcome.{outcome};
+ghost use Rattle.words.specs.Promises.{ReadWord, LoadedWord};
 ghost use Rattle.samples.specs.Sample.{strip};
 ghost use Rattle.samples.specs.Promises.{StripChecked, Converted, Forwarded};
-ghost use Rattle.damage.specs.Promises.{Marked, counted_outcome};
+ghost use Rattle.damage.specs.Promises.{Marked};
 ghost use Rattle.swaps.specs.Swapped.{Swapped};
 ghost use Rattle.transport.specs.Moved.{Committed, Reversed};
 ghost use Rattle.capi.specs.Told.{status as statusOf, Told, Lent};
 
 // 0 for done, or rule 1.1's number of the refusal.
-pub(crate) fn status(d: Done) -> u32
-    ensures { result ≡ statusOf (done_outcome d) }
+pub(crate) fn status(d: Result<(), Refusal>) -> u32
+    ensures { result ≡ statusOf (outcome d) }
 {
     match d {
-        Done::Done => 0,
-        Done::Refused(kind) => answer::number(kind),
+        Ok(()) => 0,
+        Err(kind) => answer::number(kind),
     }
 }
 
@@ -38,11 +38,11 @@ pub extern "C" fn hamrisk_read_word(
     le: bool,
     value: &mut u64,
 ) -> u32
-    ensures { Lent word_outcome (ReadWord s.now at width le) result value.old value.new }
+    ensures { Lent outcome (ReadWord s.now at width le) result value.old value.new }
 {
     match words::read_word(s, ByteAt(at), width, le) {
-        words::Word::Refused(kind) => answer::number(kind),
-        words::Word::Value(v) => {
+        Err(kind) => answer::number(kind),
+        Ok(v) => {
             *value = v;
             0
         }
@@ -52,11 +52,11 @@ pub extern "C" fn hamrisk_read_word(
 // Sample i of one byte, or of two if `wide`.
 #[unsafe(no_mangle)]
 pub extern "C" fn hamrisk_load(s: &[u8], i: usize, wide: bool, le: bool, value: &mut u32) -> u32
-    ensures { Lent loaded_outcome (LoadedWord s.now i wide le) result value.old value.new }
+    ensures { Lent outcome (LoadedWord s.now i wide le) result value.old value.new }
 {
     match words::load(s, SampleAt(i), wide, le) {
-        words::Loaded::Refused(kind) => answer::number(kind),
-        words::Loaded::Value(v) => {
+        Err(kind) => answer::number(kind),
+        Ok(v) => {
             *value = v;
             0
         }
@@ -71,7 +71,7 @@ pub extern "C" fn hamrisk_check_strip(
     channels: usize,
     width: usize,
 ) -> u32
-    ensures { Told done_outcome (StripChecked raw_len (strip row_bytes channels width)) result }
+    ensures { Told outcome (StripChecked raw_len (strip row_bytes channels width)) result }
 {
     status(samples::check_strip(raw_len, row_bytes, channels, width))
 }
@@ -88,7 +88,7 @@ pub extern "C" fn hamrisk_convert(
     out_le: bool,
     out: &mut [u8],
 ) -> u32
-    ensures { Told done_outcome (λ d. Converted raw.now (strip row_bytes channels width) predict le out_le out.old d out.new) result }
+    ensures { Told outcome (λ d. Converted raw.now (strip row_bytes channels width) predict le out_le out.old d out.new) result }
 {
     status(strips::convert(raw, row_bytes, channels, width, le, predict, out_le, out))
 }
@@ -105,7 +105,7 @@ pub extern "C" fn hamrisk_forward(
     out_le: bool,
     out: &mut [u8],
 ) -> u32
-    ensures { Told done_outcome (λ d. Forwarded raw.now (strip row_bytes channels width) predict le out_le out.old d out.new) result }
+    ensures { Told outcome (λ d. Forwarded raw.now (strip row_bytes channels width) predict le out_le out.old d out.new) result }
 {
     status(strips::forward(raw, row_bytes, channels, width, le, predict, out_le, out))
 }
@@ -121,11 +121,11 @@ pub extern "C" fn hamrisk_marks(
     marks: &mut [u8],
     count: &mut usize,
 ) -> u32
-    ensures { Lent counted_outcome (λ d. Marked damage.now (strip row_bytes channels width) predict marks.old d marks.new) result count.old count.new }
+    ensures { Lent outcome (λ d. Marked damage.now (strip row_bytes channels width) predict marks.old d marks.new) result count.old count.new }
 {
     match damage::marks(damage, row_bytes, channels, width, predict, marks) {
-        damage::Counted::Refused(kind) => answer::number(kind),
-        damage::Counted::Done(n) => {
+        Err(kind) => answer::number(kind),
+        Ok(n) => {
             *count = n;
             0
         }
@@ -143,7 +143,7 @@ pub extern "C" fn hamrisk_reverse_bits(s: &mut [u8])
 // Each group of `width` bytes backwards.
 #[unsafe(no_mangle)]
 pub extern "C" fn hamrisk_swap_components(raw: &[u8], width: usize, out: &mut [u8]) -> u32
-    ensures { Told done_outcome (λ d. Swapped raw.now width out.old d out.new) result }
+    ensures { Told outcome (λ d. Swapped raw.now width out.old d out.new) result }
 {
     status(swaps::swap_components(raw, width, out))
 }
@@ -151,7 +151,7 @@ pub extern "C" fn hamrisk_swap_components(raw: &[u8], width: usize, out: &mut [u
 // A copy at the front of `out`.
 #[unsafe(no_mangle)]
 pub extern "C" fn hamrisk_commit(source: &[u8], out: &mut [u8]) -> u32
-    ensures { Told done_outcome (λ d. Committed source.now out.old d out.new) result }
+    ensures { Told outcome (λ d. Committed source.now out.old d out.new) result }
 {
     status(transport::commit_uninit(source, out))
 }

@@ -1,12 +1,12 @@
 // The calls that read a file's directories. A page comes back as the numbers of include/hamrisk.h's hamrisk_page, in its order.
 ghost use Rattle.std.specs.Prelude.{◌≡◌};
-ghost use Rattle.answer.specs.Outcome.{done_outcome};
+ghost use Rattle.answer.specs.Outcome.{outcome};
 ghost use Rattle.directory.specs.Page.{DirectoryRead, StripPlaced, StripsPlaced};
 ghost use Rattle.capi.specs.Told.{Told, Lent};
 ghost use Rattle.capi.specs.OnPages.{flag_of, numbers_of, found_numbers, place_numbers};
 
 use crate::status;
-use directory::{Found, Page, Place};
+use directory::Page;
 
 // A flag as a number.
 pub(crate) fn flag(on: bool) -> usize
@@ -59,8 +59,8 @@ pub extern "C" fn hamrisk_directory(file: &[u8], page: usize, found: &mut [usize
     ensures { Lent found_numbers (DirectoryRead file.now page) result found.old found.new }
 {
     match directory::read_directory(file, page) {
-        Found::Refused(kind) => answer::number(kind),
-        Found::Found(p) => {
+        Err(kind) => answer::number(kind),
+        Ok(p) => {
             *found = numbers_of(p);
             0
         }
@@ -79,8 +79,8 @@ pub extern "C" fn hamrisk_strip(
     ensures { Lent place_numbers (StripPlaced file.now page k) result (place.old, length.old) (place.new, length.new) }
 {
     match directory::strip_place(file, page, k) {
-        Place::Refused(kind) => answer::number(kind),
-        Place::At(at, bytes) => {
+        Err(kind) => answer::number(kind),
+        Ok((at, bytes)) => {
             *place = at.0;
             *length = bytes;
             0
@@ -91,7 +91,7 @@ pub extern "C" fn hamrisk_strip(
 // Where every strip of a page stands: its place and its length, strip by strip.
 #[unsafe(no_mangle)]
 pub extern "C" fn hamrisk_strips(file: &[u8], page: usize, parts: &mut [usize]) -> u32
-    ensures { Told done_outcome (λ d. StripsPlaced file.now page parts.old d parts.new) result }
+    ensures { Told outcome (λ d. StripsPlaced file.now page parts.old d parts.new) result }
 {
     status(directory::strip_places(file, page, parts))
 }

@@ -1,11 +1,11 @@
 // The calls on packets. A state is 80 numbers.
-ghost use Rattle.answer.specs.Outcome.{done_outcome};
-ghost use Rattle.packets.specs.Promises.{plan as plan_of, wrote_outcome};
+ghost use Rattle.answer.specs.Outcome.{outcome};
+ghost use Rattle.packets.specs.Promises.{plan as plan_of};
 ghost use Rattle.packet_numbers.specs.Numbers.{PieceOn, CloseOn};
 ghost use Rattle.capi.specs.Told.{Told, Lent, StartTold};
 
 use crate::status;
-use packets::{Packets, Wrote};
+use packets::Packets;
 
 // A conversion of which no byte has come.
 #[unsafe(no_mangle)]
@@ -35,11 +35,11 @@ pub extern "C" fn hamrisk_packets_piece(
     out: &mut [u8],
     written: &mut usize,
 ) -> u32
-    ensures { Lent wrote_outcome (λ a. PieceOn state.old piece.now out.old a state.new out.new) result written.old written.new }
+    ensures { Lent outcome (λ a. PieceOn state.old piece.now out.old a state.new out.new) result written.old written.new }
 {
     match packet_numbers::piece(state, piece, out) {
-        Wrote::Refused(kind) => answer::number(kind),
-        Wrote::Bytes(n) => {
+        Err(kind) => answer::number(kind),
+        Ok(n) => {
             *written = n;
             0
         }
@@ -49,7 +49,7 @@ pub extern "C" fn hamrisk_packets_piece(
 // Whether whole rows have come.
 #[unsafe(no_mangle)]
 pub extern "C" fn hamrisk_packets_close(state: &[u64; 80]) -> u32
-    ensures { Told done_outcome (CloseOn state.now) result }
+    ensures { Told outcome (CloseOn state.now) result }
 {
     status(packet_numbers::close(state))
 }

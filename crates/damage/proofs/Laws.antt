@@ -1,4 +1,5 @@
 -- What a caller may conclude from marks: each law is of a call that was done, and follows from the promise alone. Assumes nothing.
+use Rattle.std.specs.Prelude.{Ok}
 use mathlib.Core.Path.{◌≡◌, refl, sym, ap, ◌∙◌}
 use mathlib.Core.Bool.{Bool, true, false}
 use mathlib.Core.List.{List}
@@ -13,7 +14,6 @@ use Rattle.answer.proofs.Promised.{done-sound, done-value}
 use Rattle.samples.specs.Sample.{Strip, Good, sample}
 use Rattle.samples.proofs.Strips.{per_row_lem, width_fits}
 use Rattle.samples.proofs.Rows.{row-alone}
-use Rattle.damage.specs.declared.Counted.TheVariants as CountedIs
 use Rattle.damage.specs.Marks.{damaged, struck, marked, mark_byte, counted, Alike}
 use Rattle.damage.specs.Promises.{samples_of, mark_faults, Marked}
 use Rattle.laws.proofs.Lists.{past_end}
@@ -48,16 +48,16 @@ row-marks-alone bytes g good predict s t r agree n at_r =
     (n % per)
     (mod-lt n (row_samples bytes g good)))
 
-module _ {damage : List ℕ} {g : Strip} {predict : Bool} {old : List ℕ} {count : ℕ} {new : List ℕ} (call : Marked damage g predict old (CountedIs.Done count) new) where
+module _ {damage : List ℕ} {g : Strip} {predict : Bool} {old : List ℕ} {count : ℕ} {new : List ℕ} (call : Marked damage g predict old (Ok count) new) where
   -- a call that was done had no fault
   no_fault : Sound (mark_faults damage g old)
   no_fault = done-sound (mark_faults damage g old) _ count (sym call.promise.answers)
 
   good_call : Good (length damage) g
-  good_call = good-marks damage g predict old (CountedIs.Done count) new no_fault
+  good_call = good-marks damage g predict old (Ok count) new no_fault
 
   mark_is : (n : ℕ) → n < samples_of damage g → get_or new n 0 ≡ mark_byte (marked g predict damage n)
-  mark_is n h = written damage g predict old (CountedIs.Done count) new call.promise no_fault n h
+  mark_is n h = written damage g predict old (Ok count) new call.promise no_fault n h
 
   -- an unmarked sample is the same whatever the damaged bytes held
   pub unmarked_same : (n : ℕ) → n < samples_of damage g → get_or new n 0 ≡ 0 → (le : Bool) (a b : List ℕ) → Alike damage a b → sample g predict le a n ≡ sample g predict le b n
@@ -108,7 +108,7 @@ module _ {damage : List ℕ} {g : Strip} {predict : Bool} {old : List ℕ} {coun
   count-at-most = omega (arith, count_of_marks, counted-most (samples_of damage g) (λ n. eqb (get_or new n 0) 1))
 
 -- without prediction a sample is marked exactly if one of its own bytes is damaged
-pub unpredicted_own : {damage : List ℕ} {g : Strip} {old : List ℕ} {count : ℕ} {new : List ℕ} → Marked damage g false old (CountedIs.Done count) new → (n : ℕ) → n < samples_of damage g → (get_or new n 0 ≡ 1 → (p : ℕ) × ((p < g.width) × (get_or damage (n * g.width + p) 0 ≡ 0 → ⊥))) × ((p : ℕ) → p < g.width → (get_or damage (n * g.width + p) 0 ≡ 0 → ⊥) → get_or new n 0 ≡ 1)
+pub unpredicted_own : {damage : List ℕ} {g : Strip} {old : List ℕ} {count : ℕ} {new : List ℕ} → Marked damage g false old (Ok count) new → (n : ℕ) → n < samples_of damage g → (get_or new n 0 ≡ 1 → (p : ℕ) × ((p < g.width) × (get_or damage (n * g.width + p) 0 ≡ 0 → ⊥))) × ((p : ℕ) → p < g.width → (get_or damage (n * g.width + p) 0 ≡ 0 → ⊥) → get_or new n 0 ≡ 1)
 unpredicted_own {damage} {g} {old} {count} {new} call n h = (own, mark)
   where
     is : get_or new n 0 ≡ mark_byte (struck g.width damage n)
@@ -123,7 +123,7 @@ unpredicted_own {damage} {g} {old} {count} {new} call n h = (own, mark)
     mark p below hurt = is ∙ ap mark_byte (struck-here g.width damage (n * g.width) p below hurt)
 
 -- more damage never unmarks: of two calls on as many bytes, where all that the first takes for damaged the second does too
-pub more_damage : {damage worse : List ℕ} {g : Strip} {predict : Bool} {old old' : List ℕ} {count count' : ℕ} {new new' : List ℕ} → Marked damage g predict old (CountedIs.Done count) new → Marked worse g predict old' (CountedIs.Done count') new' → length damage ≡ length worse → ((k : ℕ) → get_or worse k 0 ≡ 0 → get_or damage k 0 ≡ 0) → (n : ℕ) → n < samples_of damage g → get_or new n 0 ≡ 1 → get_or new' n 0 ≡ 1
+pub more_damage : {damage worse : List ℕ} {g : Strip} {predict : Bool} {old old' : List ℕ} {count count' : ℕ} {new new' : List ℕ} → Marked damage g predict old (Ok count) new → Marked worse g predict old' (Ok count') new' → length damage ≡ length worse → ((k : ℕ) → get_or worse k 0 ≡ 0 → get_or damage k 0 ≡ 0) → (n : ℕ) → n < samples_of damage g → get_or new n 0 ≡ 1 → get_or new' n 0 ≡ 1
 more_damage {damage} {worse} {g} call call' long more n h one =
     let two = (call.exact (no_fault call) true n h).0 one in
     let alike = two.alike in

@@ -14,14 +14,7 @@ ghost use Rattle.samples.specs.Sample.{strip};
 ghost use Rattle.damage.specs.Passes.{MarksFit, RowMarked, StripMarksFit, MarkedInto};
 ghost use Rattle.damage.specs.Promises.{Marked};
 
-use answer::{Done, Refusal};
-
-// The answer of `marks`: how many samples are marked.
-#[derive(Clone, Copy)]
-pub enum Counted {
-    Done(usize),
-    Refused(Refusal),
-}
+use answer::Refusal;
 
 // A predicted row. Where its damage begins with a hit in every channel, the marks are 0 up to there and 1 from there on.
 fn mark_row(damage: &[u8], channels: usize, width: usize, marks: &mut [u8]) -> usize
@@ -90,25 +83,21 @@ pub fn marks(
     width: usize,
     predict: bool,
     marks: &mut [u8],
-) -> Counted
+) -> Result<usize, Refusal>
     ensures { Marked damage.now (strip row_bytes channels width) predict marks.old result marks.new }
 {
-    match samples::check_strip(damage.len(), row_bytes, channels, width) {
-        Done::Refused(k) => Counted::Refused(k),
-        Done::Done => {
-            let samples = damage.len() / width;
-            if marks.len() < samples {
-                return Counted::Refused(Refusal::OutputTooSmall);
-            }
-            let count = mark_strip(
-                damage,
-                row_bytes,
-                channels,
-                width,
-                predict,
-                &mut marks[0..samples],
-            );
-            Counted::Done(count)
-        }
+    samples::check_strip(damage.len(), row_bytes, channels, width)?;
+    let samples = damage.len() / width;
+    if marks.len() < samples {
+        return Err(Refusal::OutputTooSmall);
     }
+    let count = mark_strip(
+        damage,
+        row_bytes,
+        channels,
+        width,
+        predict,
+        &mut marks[0..samples],
+    );
+    Ok(count)
 }

@@ -1,13 +1,13 @@
 -- A strip is the part of the file that its place says; where a page is accepted every strip of it is found, and the lengths of their rows, unpacked
 -- where they are packed, add up to the layout's scratch length, so that all strips end to end are planes that `render` takes. Assumes nothing.
+use Rattle.std.specs.Prelude.{Ok}
 use Prim.Native.Nat.{◌%◌, ◌*◌, ◌+◌, ◌-◌, ◌<◌, ◌≤◌, suc, zero, ℕ}
 use Rattle.answer.proofs.Promised.{done-sound, done-value, sound_back, sound-done, sound-front, sound-here, sound_more, sound_rest}
-use Rattle.answer.specs.Outcome.{Sound, done, next, pick, unless}
+use Rattle.answer.specs.Outcome.{Sound, done, next, pick, unless, Answer}
 use Rattle.answer.specs.declared.ByteAt.{ByteAt}
 use Rattle.directory.proofs.Calls.{inside}
 use Rattle.directory.specs.Page.{Part, StripCut, StripPlaced, cut, packed_faults, page_faults, page_of, page_strips, part_of, place_faults, place_outcome, placed, read_faults, smaller, strip_count, strip_faults, strip_length, strip_part, strip_place, strip_rows, strips_by}
 use Rattle.directory.specs.declared.Page.{Page}
-use Rattle.directory.specs.declared.Place.{Place}
 use Rattle.directory.specs.declared.strips.Strips.{Strips}
 use Rattle.entries.specs.Entries.{directory, open_faults}
 use Rattle.entries.specs.declared.Directory.{Directory}
@@ -31,10 +31,9 @@ use mathlib.Core.Path.{◌∙◌, ◌≡◌, ap, refl, sym}
 use native.Mathlib.Decide.{dec_lt}
 use native.Mathlib.Nat.{add-mul, div-add-mod', mod-lt, mul_assoc, mul_comm, mul-le-mul_right, mul-pos, one-mul, suc-mul, zero-mul}
 use native.Mathlib.Omega.{arith}
-use Rattle.directory.specs.declared.Place.TheVariants as PlaceIs
 
 -- what `strip` hands out is the part of the file at the place and of the length that `strip_place` says, and nothing where that refuses
-pub strip-is : (file : List ℕ) (page k : ℕ) (r : Place) (s : List ℕ) → StripPlaced file page k r → StripCut file page k s → s ≡ cut file (place_outcome r)
+pub strip-is : (file : List ℕ) (page k : ℕ) (r : Answer (ByteAt × ℕ)) (s : List ℕ) → StripPlaced file page k r → StripCut file page k s → s ≡ cut file (place_outcome r)
 strip-is file page k r s p q = q ∙ ap (cut file) (sym p)
 
 -- where a page is accepted every strip of it is found
@@ -216,7 +215,7 @@ some_length file s k rows row sound = by s.packbits refl
     by false e = rw (plain-length file s k sound e) (mul-pos rows row)
 
 -- so a strip that is found is not empty: `strip` is empty exactly on refusal
-pub strip-some : (file : List ℕ) (page k : ℕ) (r : Place) (s : List ℕ) (at : ByteAt) (n : ℕ) → StripPlaced file page k r → StripCut file page k s → r ≡ PlaceIs.At at n → (length s ≡ n) × (0 < n)
+pub strip-some : (file : List ℕ) (page k : ℕ) (r : Answer (ByteAt × ℕ)) (s : List ℕ) (at : ByteAt) (n : ℕ) → StripPlaced file page k r → StripCut file page k s → r ≡ Ok at n → (length s ≡ n) × (0 < n)
 strip-some file page k r s at n p q e =
     let d = directory file page in
     let strips = page_strips file d in
@@ -226,5 +225,5 @@ strip-some file page k r s at n p q e =
     let some = some_length file strips k size.0 size.1 (sound_rest (sound_back (page_faults file page) _ found.1)) in
     let n_is : n ≡ strip_length file strips k = ap (λ (x : Part). x.bytes) found.0 in
     let room = inside file page k r p at n e in
-    let s_is : s ≡ take n (drop at.0 file) = strip-is file page k r s p q ∙ ap (λ (x : Place). cut file (place_outcome x)) e in
+    let s_is : s ≡ take n (drop at.0 file) = strip-is file page k r s p q ∙ ap (λ (x : Answer (ByteAt × ℕ)). cut file (place_outcome x)) e in
     (rw s_is (simp (length-take, length-drop) (omega arith)), omega (arith, some, n_is))

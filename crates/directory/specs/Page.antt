@@ -1,8 +1,8 @@
 -- A page: its layout, its strips and their faults (rules 14.10 and 14.11), and what the calls promise (14.12 to 14.15). Assumes nothing.
-use Rattle.std.specs.Prelude.{ℕ, ◌+◌, ◌-◌, ◌*◌, ◌/◌, ◌%◌, ◌≡◌, not, ◌&&◌, List, [], ◌∷◌, ◌++◌, length, take, drop, eqb, ltb, leb}
-use Rattle.answer.specs.declared.Done.{Done}
-use Rattle.answer.specs.Outcome.{Outcome, done, refused, Fault, unless, invalid, truncated, output_too_small, number, pick, done_outcome, Promise}
+use Rattle.std.specs.Prelude.{ℕ, ◌+◌, ◌-◌, ◌*◌, ◌/◌, ◌%◌, ◌≡◌, not, ◌&&◌, List, [], ◌∷◌, ◌++◌, length, take, drop, eqb, ltb, leb, Ok, Err}
+use Rattle.answer.specs.Outcome.{Outcome, done, refused, Fault, unless, invalid, truncated, output_too_small, number, pick, Promise, outcome, Answer, Done}
 use Rattle.answer.specs.Table.{table}
+use Rattle.answer.specs.declared.ByteAt.{ByteAt}
 use Rattle.laws.specs.Turns.{faults_below}
 use Rattle.layout.specs.Layout.{encoded_width, plane_channels, layout_faults, completed}
 use Rattle.packbits.specs.Rows.{rows_faults}
@@ -12,10 +12,6 @@ use Rattle.tags.specs.declared.Tags.{Tags}
 use Rattle.tags.specs.Tags.{PACKBITS, strips_per_plane, tags_of, tag_faults}
 use Rattle.directory.specs.declared.strips.Strips.{Strips}
 use Rattle.directory.specs.declared.Page.{Page}
-use Rattle.directory.specs.declared.Found.{Found}
-use Rattle.directory.specs.declared.Found.TheVariants as FoundIs
-use Rattle.directory.specs.declared.Place.{Place}
-use Rattle.directory.specs.declared.Place.TheVariants as PlaceIs
 
 -- everything but the strips: the tags' faults, and the layout's
 unfoldable pub page_faults : List ℕ → ℕ → List Fault
@@ -102,13 +98,9 @@ page_of file d =
       compression = (tags_of file d).compression;
     }
 
-abbrev pub found_outcome : Found → Outcome Page
-found_outcome (FoundIs.Found p) = done p
-found_outcome (FoundIs.Refused k) = refused (number k)
-
-abbrev pub place_outcome : Place → Outcome Part
-place_outcome (PlaceIs.At at bytes) = done (record { at = at.0; bytes = bytes })
-place_outcome (PlaceIs.Refused k) = refused (number k)
+abbrev pub place_outcome : (Answer (ByteAt × ℕ)) → Outcome Part
+place_outcome (Ok at bytes) = done (record { at = at.0; bytes = bytes })
+place_outcome (Err k) = refused (number k)
 
 -- the part of the file that an outcome says, nothing on a refusal
 abbrev pub cut : List ℕ → Outcome Part → List ℕ
@@ -123,13 +115,13 @@ abbrev pub parts_faults : List ℕ → Strips → List ℕ → List Fault
 parts_faults file s parts = strips_faults file s ++ (output_too_small (ltb (length parts) (2 * s.offsets.count)) ∷ [])
 
 -- what the functions promise
-abbrev pub DirectoryRead : List ℕ → ℕ → Found → Type 0
-DirectoryRead file page answer = found_outcome answer ≡ unless (read_faults file page) (page_of file (directory file page))
+abbrev pub DirectoryRead : List ℕ → ℕ → Answer Page → Type 0
+DirectoryRead file page answer = outcome answer ≡ unless (read_faults file page) (page_of file (directory file page))
 
 abbrev pub placed : List ℕ → ℕ → ℕ → Outcome Part
 placed file page k = unless (place_faults file page k) (strip_part file (page_strips file (directory file page)) k)
 
-abbrev pub StripPlaced : List ℕ → ℕ → ℕ → Place → Type 0
+abbrev pub StripPlaced : List ℕ → ℕ → ℕ → (Answer (ByteAt × ℕ)) → Type 0
 StripPlaced file page k answer = place_outcome answer ≡ placed file page k
 
 abbrev pub StripCut : List ℕ → ℕ → ℕ → List ℕ → Type 0
@@ -141,4 +133,4 @@ parts_of file s = table (2 * s.offsets.count) (part_number file s)
 abbrev pub StripsPlaced : List ℕ → ℕ → List ℕ → Done → List ℕ → Type 0
 StripsPlaced file page old answer new =
     let s = page_strips file (directory file page) in
-    Promise (unless (page_faults file page ++ parts_faults file s old) tt) (parts_of file s) old (done_outcome answer) new
+    Promise (unless (page_faults file page ++ parts_faults file s old) tt) (parts_of file s) old (outcome answer) new

@@ -1,14 +1,14 @@
 // A page past every fault but its strips': its layout, its predictor, its compression, and what its strips are found by.
 ghost use Rattle.std.specs.Prelude.{◌≡◌, ◌*◌};
-ghost use Rattle.answer.specs.Outcome.{unless};
+ghost use Rattle.answer.specs.Outcome.{unless, outcome};
 ghost use Rattle.layout.specs.Layout.{layout_faults, completed};
 ghost use Rattle.directory.specs.Page.{strips_by};
-ghost use Rattle.directory.specs.Parts.{SmallRow, opening_outcome, whole_by, PageOpened};
+ghost use Rattle.directory.specs.Parts.{SmallRow, whole_by, PageOpened};
 
 use crate::strips::Strips;
 use answer::Refusal;
-use layout::{Checked, RasterLayout};
-use tags::{Read, Tags};
+use layout::RasterLayout;
+use tags::Tags;
 
 #[derive(Clone, Copy)]
 pub(crate) struct Whole {
@@ -16,12 +16,6 @@ pub(crate) struct Whole {
     pub predictor: usize,
     pub compression: usize,
     pub strips: Strips,
-}
-
-#[derive(Clone, Copy)]
-pub(crate) enum Opening {
-    Page(Whole),
-    Refused(Refusal),
 }
 
 // The bytes of a row.
@@ -50,27 +44,23 @@ fn strips_by(t: Tags, l: RasterLayout) -> Strips
 }
 
 // The layout check, of a page whose tags are sound.
-fn lay_out(t: Tags) -> Opening
-    ensures { opening_outcome result ≡ unless (layout_faults t.fields) (whole_by t) }
+fn lay_out(t: Tags) -> Result<Whole, Refusal>
+    ensures { outcome result ≡ unless (layout_faults t.fields) (whole_by t) }
 {
     let f = t.fields;
-    match layout::check_layout(f) {
-        Checked::Refused(k) => Opening::Refused(k),
-        Checked::Done(l) => Opening::Page(Whole {
-            layout: l,
-            predictor: t.predictor,
-            compression: t.compression,
-            strips: strips_by(t, l),
-        }),
-    }
+    let l = layout::check_layout(f)?;
+    Ok(Whole {
+        layout: l,
+        predictor: t.predictor,
+        compression: t.compression,
+        strips: strips_by(t, l),
+    })
 }
 
 // A page of a file.
-pub(crate) fn open_page(file: &[u8], page: usize) -> Opening
+pub(crate) fn open_page(file: &[u8], page: usize) -> Result<Whole, Refusal>
     ensures { PageOpened file.now page result }
 {
-    match tags::read_tags(file, page) {
-        Read::Refused(k) => Opening::Refused(k),
-        Read::Tags(t) => lay_out(t),
-    }
+    let t = tags::read_tags(file, page)?;
+    lay_out(t)
 }

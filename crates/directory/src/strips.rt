@@ -6,7 +6,7 @@ ghost use Rattle.packbits.specs.Rows.{rows_faults};
 ghost use Rattle.tags.specs.Tags.{strips_per_plane};
 ghost use Rattle.directory.specs.Page.{smaller, strip_place, strip_length, strip_faults, strips_faults, part_number};
 
-use answer::{Done, Refusal, fault, first_of};
+use answer::{Refusal, fault, first_of};
 use entries::{Field, value};
 use packbits::check_rows;
 use tags::strips_per_plane;
@@ -62,17 +62,17 @@ pub(crate) fn length_of(file: &[u8], s: Strips, k: u32) -> u32
 }
 
 // The rows of a strip, which are read if they are packed.
-fn check_packed(packed: bool, strip: &[u8], rows: u32, row: u32) -> Done
+fn check_packed(packed: bool, strip: &[u8], rows: u32, row: u32) -> Result<(), Refusal>
     ensures { Step (pick packed (rows_faults strip.now rows row) []) result }
 {
     match packed {
         true => check_rows(strip, rows as usize, row as usize),
-        false => Done::Done,
+        false => Ok(()),
     }
 }
 
 // Strip k, which is the turn-th of its plane.
-fn check_turn(file: &[u8], s: Strips, k: u32, turn: u32) -> Done
+fn check_turn(file: &[u8], s: Strips, k: u32, turn: u32) -> Result<(), Refusal>
     requires { turn ≡ k % strips_per_plane s.rows s.each }
     ensures { Step (strip_faults file.now s k) result }
 {
@@ -80,16 +80,12 @@ fn check_turn(file: &[u8], s: Strips, k: u32, turn: u32) -> Done
     let bytes = length_of(file, s, k) as usize;
     let rows = rows_at(s.rows, s.each, turn);
     let right = times(rows, s.row);
-    match first_of(
+    first_of(
         fault(!s.packbits & (bytes != right), Refusal::Invalid),
         fault(file.len() < at + bytes, Refusal::Truncated),
-    ) {
-        Done::Refused(r) => Done::Refused(r),
-        Done::Done => {
-            let end = at + bytes;
-            check_packed(s.packbits, &file[at..end], rows, s.row)
-        }
-    }
+    )?;
+    let end = at + bytes;
+    check_packed(s.packbits, &file[at..end], rows, s.row)
 }
 
 fn rest(k: u32, per: u32) -> u32
@@ -101,7 +97,7 @@ fn rest(k: u32, per: u32) -> u32
     k % per
 }
 
-pub(crate) fn check_strip(file: &[u8], s: Strips, k: u32) -> Done
+pub(crate) fn check_strip(file: &[u8], s: Strips, k: u32) -> Result<(), Refusal>
     ensures { Step (strip_faults file.now s k) result }
 {
     let turn = rest(k, strips_per_plane(s.rows, s.each));
@@ -120,7 +116,7 @@ fn next_turn(turn: u32, per: u32) -> u32
     }
 }
 
-pub(crate) fn check_strips(file: &[u8], s: Strips) -> Done
+pub(crate) fn check_strips(file: &[u8], s: Strips) -> Result<(), Refusal>
     ensures { Step (strips_faults file.now s) result }
 {
     let n = s.offsets.count;
@@ -128,14 +124,12 @@ pub(crate) fn check_strips(file: &[u8], s: Strips) -> Done
     let mut k: u32 = 0;
     let mut turn: u32 = 0;
     while k < n {
-        match check_turn(file, s, k, turn) {
-            Done::Refused(r) => return Done::Refused(r),
-            Done::Done => {}
-        }
+        check_turn(file, s, k, turn)?;
+
         turn = next_turn(turn, per);
         k += 1;
     }
-    Done::Done
+    Ok(())
 }
 
 // Every strip's place and length, by turns.

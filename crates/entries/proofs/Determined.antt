@@ -1,27 +1,17 @@
 -- Each promise of this crate allows one answer. Assumes nothing.
+use Rattle.std.specs.Prelude.{Ok, Err}
 use Prim.Native.Nat.{ℕ}
-use Rattle.answer.proofs.Promised.{done_once, kind, kind-number, once}
-use Rattle.answer.specs.Outcome.{Outcome, Step, done, refused}
-use Rattle.answer.specs.declared.Done.{Done}
-use Rattle.entries.specs.Entries.{DirectoryOpened, field_faults, field_from, opened_outcome, value_of}
+use Rattle.answer.proofs.Promised.{answer_once, kind, kind-number, once}
+use Rattle.answer.specs.Outcome.{Outcome, Step, done, refused, outcome, Answer, Done}
+use Rattle.entries.specs.Entries.{DirectoryOpened, field_faults, field_from, value_of}
 use Rattle.entries.specs.declared.Directory.{Directory}
 use Rattle.entries.specs.declared.Field.{Field}
-use Rattle.entries.specs.declared.Opened.{Opened}
 use mathlib.Core.Bool.{Bool}
 use mathlib.Core.List.{List}
 use mathlib.Core.Path.{◌∙◌, ◌≡◌, ap, refl, sym}
-use Rattle.entries.specs.declared.Opened.TheVariants as OpenedIs
 
-abbrev opened-back : Outcome Directory → Opened
-opened-back (done d) = OpenedIs.At d
-opened-back (refused n) = OpenedIs.Refused (kind n)
-
-opened_told : (a : Opened) → opened-back (opened_outcome a) ≡ a
-opened_told (OpenedIs.At d) = refl
-opened_told (OpenedIs.Refused k) = ap OpenedIs.Refused (kind-number k)
-
-pub open_directory_determined : (file : List ℕ) (page : ℕ) (a b : Opened) → DirectoryOpened file page a → DirectoryOpened file page b → a ≡ b
-open_directory_determined file page a b p q = once opened_outcome opened-back opened_told a b (p ∙ sym q)
+pub open_directory_determined : (file : List ℕ) (page : ℕ) (a b : Answer Directory) → DirectoryOpened file page a → DirectoryOpened file page b → a ≡ b
+open_directory_determined file page a b p q = answer_once a b (p ∙ sym q)
 
 pub field_from_determined : (file : List ℕ) (d : Directory) (from tag default : ℕ) (a b : Field) → a ≡ field_from file d from tag default → b ≡ field_from file d from tag default → a ≡ b
 field_from_determined file d from tag default a b p q = p ∙ sym q
@@ -30,4 +20,4 @@ pub value_determined : (file : List ℕ) (le : Bool) (f : Field) (j a b : ℕ) �
 value_determined file le f j a b p q = p ∙ sym q
 
 pub check_field_determined : (size : ℕ) (required longs several : Bool) (f : Field) (a b : Done) → Step (field_faults size required longs several f) a → Step (field_faults size required longs several f) b → a ≡ b
-check_field_determined size required longs several f a b p q = done_once a b (p.passed ∙ sym q.passed)
+check_field_determined size required longs several f a b p q = answer_once a b (p.passed ∙ sym q.passed)

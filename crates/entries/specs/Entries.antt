@@ -1,13 +1,11 @@
 -- A TIFF file's header, its directories, their entries, and the fields that they say (rules 14.1 to 14.6).
 -- Every definition is total: past the file's end 0 is read, and an earlier fault has decided by then. Assumes nothing.
 use Rattle.std.specs.Prelude.{ℕ, zero, suc, ◌+◌, ◌-◌, ◌*◌, ◌≡◌, Bool, true, false, not, ◌&&◌, ◌||◌, List, [], ◌∷◌, ◌++◌, length, eqb, ltb, leb}
-use Rattle.answer.specs.Outcome.{Outcome, done, refused, number, Fault, unless, invalid, truncated, limit, pick}
+use Rattle.answer.specs.Outcome.{Outcome, done, refused, number, Fault, unless, invalid, truncated, limit, pick, outcome, Answer}
 use Rattle.laws.specs.Turns.{every, faults_below}
 use Rattle.words.specs.Word.{word_at}
 use Rattle.entries.specs.declared.Directory.{Directory}
 use Rattle.entries.specs.declared.Field.{Field}
-use Rattle.entries.specs.declared.Opened.{Opened}
-use Rattle.entries.specs.declared.Opened.TheVariants as OpenedIs
 
 -- a SHORT and a LONG at a place
 abbrev pub short : List ℕ → Bool → ℕ → ℕ
@@ -158,10 +156,5 @@ field_faults size required longs several f =
     ∷ truncated (ltb size (f.place + bytes_of f.kind f.count))
     ∷ []
 
--- the answer of `open_directory`, and what it promises
-abbrev pub opened_outcome : Opened → Outcome Directory
-opened_outcome (OpenedIs.At d) = done d
-opened_outcome (OpenedIs.Refused k) = refused (number k)
-
-abbrev pub DirectoryOpened : List ℕ → ℕ → Opened → Type 0
-DirectoryOpened file page answer = opened_outcome answer ≡ unless (open_faults file page) (directory file page)
+abbrev pub DirectoryOpened : List ℕ → ℕ → Answer Directory → Type 0
+DirectoryOpened file page answer = outcome answer ≡ unless (open_faults file page) (directory file page)

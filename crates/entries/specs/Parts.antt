@@ -1,9 +1,8 @@
 -- What the crate's own functions need and answer. Assumes nothing.
 use Rattle.std.specs.Prelude.{ℕ, ◌≤◌, ◌<◌, ◌≡◌, Bool, List, length}
-use Rattle.answer.specs.Outcome.{unless}
+use Rattle.answer.specs.Outcome.{unless, outcome, Answer}
 use Rattle.entries.specs.declared.Directory.{Directory}
-use Rattle.entries.specs.declared.Opened.{Opened}
-use Rattle.entries.specs.Entries.{tag_at, directory_at, directory_end, directory_faults, opened_outcome}
+use Rattle.entries.specs.Entries.{tag_at, directory_at, directory_end, directory_faults}
 
 -- a directory that is all in the file, and an entry of it
 abbrev pub Room : List ℕ → Directory → Type 0
@@ -18,5 +17,5 @@ pub record From (file : List ℕ) (d : Directory) (from tag : ℕ) : Type 0 wher
   pub within : from ≤ d.n
   pub lower : (j : ℕ) → j < from → tag_at file d j < tag
 
-abbrev pub OpenedAt : List ℕ → Bool → ℕ → Opened → Type 0
-OpenedAt file le at answer = let d = directory_at file le at in opened_outcome answer ≡ unless (directory_faults file d) d
+abbrev pub OpenedAt : List ℕ → Bool → ℕ → Answer Directory → Type 0
+OpenedAt file le at answer = let d = directory_at file le at in outcome answer ≡ unless (directory_faults file d) d

@@ -1,7 +1,7 @@
 // A TIFF file's header, its directories and their entries: the field of a tag, its values, and the faults that any field can have.
 #![tactic(auto)]
 
-use answer::{Done, Refusal, fault, first_of};
+use answer::{Refusal, fault, first_of};
 
 mod numbers;
 mod walk;
@@ -33,26 +33,17 @@ pub struct Field {
     pub value: u32,
 }
 
-// The answer of `open_directory`.
-#[derive(Clone, Copy)]
-pub enum Opened {
-    At(Directory),
-    Refused(Refusal),
-}
-
 // The types of fields that are read.
 const SHORT: u16 = 3;
 
 const LONG: u16 = 4;
 
 // The directory of a page.
-pub fn open_directory(file: &[u8], page: usize) -> Opened
+pub fn open_directory(file: &[u8], page: usize) -> Result<Directory, Refusal>
     ensures { DirectoryOpened file.now page result }
 {
-    match walk::check_header(file, page) {
-        Done::Refused(k) => Opened::Refused(k),
-        Done::Done => walk::walk(file, short(file, true, 0) == walk::II, page),
-    }
+    walk::check_header(file, page)?;
+    walk::walk(file, short(file, true, 0) == walk::II, page)
 }
 
 fn tag_at(file: &[u8], d: Directory, i: usize) -> u16
@@ -174,7 +165,13 @@ pub fn value(file: &[u8], le: bool, f: Field, j: u32) -> u32
 }
 
 // The faults of any field in a file of a size.
-pub fn check_field(size: usize, required: bool, longs: bool, several: bool, f: Field) -> Done
+pub fn check_field(
+    size: usize,
+    required: bool,
+    longs: bool,
+    several: bool,
+    f: Field,
+) -> Result<(), Refusal>
     ensures { Step (field_faults size required longs several f) result }
 {
     let missing = fault(required & !f.there, Refusal::Invalid);

@@ -1,13 +1,13 @@
 // From the header to a page's directory.
 ghost use Rattle.std.specs.Prelude.{◌≡◌, ◌+◌, ◌≤◌, length};
-ghost use Rattle.answer.specs.Outcome.{unless, Step};
+ghost use Rattle.answer.specs.Outcome.{unless, Step, outcome};
 ghost use Rattle.laws.specs.Turns.{faults_below};
-ghost use Rattle.entries.specs.Entries.{next_place, ascending as ascendingOf, header_faults, on_the_way, directory_at, place, opened_outcome};
+ghost use Rattle.entries.specs.Entries.{next_place, ascending as ascendingOf, header_faults, on_the_way, directory_at, place};
 ghost use Rattle.entries.specs.Parts.{Room, OpenedAt};
 
 use crate::numbers::{long, short};
 use crate::{Directory, Opened, tag_at};
-use answer::{Done, Refusal, fault, first_of};
+use answer::{Refusal, fault, first_of};
 
 // The highest number of a page.
 const LAST_PAGE: usize = 15;
@@ -20,14 +20,14 @@ pub(crate) const II: u16 = 18761;
 
 const MM: u16 = 19789;
 
-pub(crate) fn check_header(file: &[u8], page: usize) -> Done
+pub(crate) fn check_header(file: &[u8], page: usize) -> Result<(), Refusal>
     ensures { Step (header_faults file.now page) result }
 {
     if LAST_PAGE < page {
-        return Done::Refused(Refusal::Limit);
+        return Err(Refusal::Limit);
     }
     if file.len() < 8 {
-        return Done::Refused(Refusal::Truncated);
+        return Err(Refusal::Truncated);
     }
     let mark = short(file, true, 0);
     let version = short(file, mark == II, 2);
@@ -61,41 +61,39 @@ fn ascending(file: &[u8], d: Directory) -> bool
 }
 
 // The directory at a place.
-fn open_at(file: &[u8], le: bool, at: u32) -> Opened
+fn open_at(file: &[u8], le: bool, at: u32) -> Result<Directory, Refusal>
     ensures { OpenedAt file.now le at result }
 {
     if at == 0 {
-        return Opened::Refused(Refusal::Invalid);
+        return Err(Refusal::Invalid);
     }
     if file.len() < at as usize + 2 {
-        return Opened::Refused(Refusal::Truncated);
+        return Err(Refusal::Truncated);
     }
     let n = short(file, le, at as usize);
     if MOST_ENTRIES < n {
-        return Opened::Refused(Refusal::Limit);
+        return Err(Refusal::Limit);
     }
     if file.len() < at as usize + (6 + 12 * (n as usize)) {
-        return Opened::Refused(Refusal::Truncated);
+        return Err(Refusal::Truncated);
     }
     let d = Directory { le, at, n };
     if !ascending(file, d) {
-        return Opened::Refused(Refusal::Invalid);
+        return Err(Refusal::Invalid);
     }
-    Opened::At(d)
+    Ok(d)
 }
 
 // The directory of a page, from that of page 0 on.
-pub(crate) fn walk(file: &[u8], le: bool, page: usize) -> Opened
+pub(crate) fn walk(file: &[u8], le: bool, page: usize) -> Result<Directory, Refusal>
     requires { 8 ≤ length file.now }
-    ensures { opened_outcome result ≡ unless (faults_below (page + 1) (on_the_way file.now le)) (directory_at file.now le (place file.now le page)) }
+    ensures { outcome result ≡ unless (faults_below (page + 1) (on_the_way file.now le)) (directory_at file.now le (place file.now le page)) }
 {
     let mut at = long(file, le, 4);
     let mut p: usize = 0;
     while p < page {
-        match open_at(file, le, at) {
-            Opened::Refused(k) => return Opened::Refused(k),
-            Opened::At(d) => at = next_place(file, d),
-        }
+        let d = open_at(file, le, at)?;
+at = next_place(file, d)
         p += 1;
     }
     open_at(file, le, at)

@@ -5,8 +5,7 @@ use native.Mathlib.Omega.{arith}
 use mathlib.Core.Path.{◌≡◌, refl, sym, ap, ◌∙◌}
 use mathlib.Core.List.{List, ◌++◌}
 use lib.ListN.{length, get_or, take, drop, length-append, length-take, get_or-append}
-use Rattle.answer.specs.declared.Done.{Done}
-use Rattle.answer.specs.Outcome.{Sound, Promise, unless, done}
+use Rattle.answer.specs.Outcome.{Sound, Promise, unless, done, Done}
 use Rattle.answer.specs.Table.{table, filled}
 use Rattle.answer.proofs.Filling.{part, length_part, part_filled, stores-filled, table_same, table_self}
 use Rattle.answer.proofs.Promised.{finishes}

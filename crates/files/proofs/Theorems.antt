@@ -1,5 +1,6 @@
 -- What an accepted call of `write_file` wrote is read back: the reader answers its page, each strip is that part of the planes, and all strips end
 -- to end are the planes. Assumes nothing.
+use Rattle.std.specs.Prelude.{Ok}
 use Prim.Native.Nat.{ℕ, ◌+◌, ◌*◌, ◌≤◌, ◌<◌}
 use mathlib.Core.Path.{◌≡◌, refl, sym, ap, ◌∙◌, subst}
 use mathlib.Core.Bool.{Bool, true, false, not, ◌||◌}
@@ -9,7 +10,7 @@ use borrow.Author.Tests.{le-ltb, eq-eqb, ltb-false}
 use lib.ListN.{length, take, drop, length-take, length-drop}
 use lib.Seq.{get_or-take, get_or-drop, drop-append-add, ext_get_or}
 use lib.Dec.{eqb, ltb}
-use Rattle.answer.specs.Outcome.{Promise, done, unless, Sound, none, next}
+use Rattle.answer.specs.Outcome.{Promise, done, unless, Sound, none, next, outcome, Answer}
 use Rattle.answer.proofs.Promised.{writes, done-sound, done-value, sound-done, sound_more, sound-front, sound_back, sound-here}
 use Rattle.laws.specs.Turns.{end_to_end}
 use Rattle.laws.proofs.Says.{held}
@@ -23,16 +24,12 @@ use Rattle.entries.specs.Entries.{header_faults, on_the_way, open_faults, value_
 use Rattle.entries.specs.Entries as Entries
 use Rattle.tags.specs.declared.Tags.{Tags}
 use Rattle.tags.specs.Tags.{tags_of, tag_faults, said_faults}
-use Rattle.directory.specs.declared.Found.{Found}
-use Rattle.directory.specs.declared.Found.TheVariants as FoundIs
 use Rattle.directory.specs.Page.{page_faults, strip_rows, strips_by, strip_faults, strips_faults, read_faults, page_of, strip_part, cut, placed, DirectoryRead, StripCut}
 use Rattle.directory.specs.Page as Reader
 use Rattle.directory.specs.declared.Page.{Page}
 use Rattle.directory.proofs.Theorems.{every-strip}
 use Rattle.directory.proofs.Determined.{read_directory_determined}
-use Rattle.files.specs.declared.Written.{Written}
-use Rattle.files.specs.declared.Written.TheVariants as WrittenIs
-use Rattle.files.specs.File.{row_bytes, strips, strip_bytes, strip_start, strip_place, file_length, front, file_of, asked_faults, write_faults, written_outcome, FileWritten, without_map, page_back, strip_back}
+use Rattle.files.specs.File.{row_bytes, strips, strip_bytes, strip_start, strip_place, file_length, front, file_of, asked_faults, write_faults, FileWritten, without_map, page_back, strip_back}
 use Rattle.files.specs.Parts.{Fit}
 use Rattle.files.proofs.Asking.{asked, scratch_is}
 use Rattle.files.proofs.Places.{length_front}
@@ -128,29 +125,29 @@ module _ (f : Fields) (each : ℕ) (planes : List ℕ) (fit : Fit f each) (all :
 
 -- what reading a file back means
 pub record ReadBack (f : Fields) (each : ℕ) (planes file : List ℕ) : Type 0 where
-  pub page : (r : Found) → DirectoryRead file 0 r → r ≡ FoundIs.Found (page_back f each)
+  pub page : (r : Answer Page) → DirectoryRead file 0 r → r ≡ Ok (page_back f each)
   pub strip : (k : ℕ) (s : List ℕ) → k < strips f each → StripCut file 0 k s → s ≡ strip_back f each planes k
   pub whole : (s : ℕ → List ℕ) → ((k : ℕ) → k < strips f each → StripCut file 0 k (s k)) → end_to_end (strips f each) s ≡ take (scratch_length f) planes
 
 file_back : (f : Fields) (each : ℕ) (planes : List ℕ) → Fit f each → scratch_length f ≤ length planes → ReadBack f each planes (file_of f each planes)
 file_back f each planes fit all =
     record {
-      page = λ r p. read_directory_determined (file_of f each planes) 0 r (FoundIs.Found (page_back f each)) p (sym (taken f each planes fit all));
+      page = λ r p. read_directory_determined (file_of f each planes) 0 r (Ok (page_back f each)) p (sym (taken f each planes fit all));
       strip = λ k s h p. p ∙ strip_back_lem f each planes fit all k h;
       whole = λ s p. joined_same (strips f each) s (strip_back f each planes) (λ k h. p k h ∙ strip_back_lem f each planes fit all k h) ∙ parts_joined (strips f each) (strip_bytes f each) planes ∙ ap (λ (n : ℕ). take n planes) (strips-all f each fit);
     }
 
 -- what an accepted call wrote is read back
-pub reads_back : (l : RasterLayout) (each : ℕ) (planes old new : List ℕ) (r : Written) (n : ℕ) → FileWritten l each planes old r new → r ≡ WrittenIs.Length n → ReadBack l.fields each planes (take n new)
+pub reads_back : (l : RasterLayout) (each : ℕ) (planes old new : List ℕ) (r : Answer ℕ) (n : ℕ) → FileWritten l each planes old r new → r ≡ Ok n → ReadBack l.fields each planes (take n new)
 reads_back l each planes old new r n p e =
     let f = l.fields in
-    let accepted : unless (write_faults l each planes old) (file_length f each) ≡ done n = sym p.answers ∙ ap written_outcome e in
+    let accepted : unless (write_faults l each planes old) (file_length f each) ≡ done n = sym p.answers ∙ ap outcome e in
     let sound = done-sound (write_faults l each planes old) (file_length f each) n accepted in
     let known = asked l each (sound-front (asked_faults l each) _ sound) in
     let fit = known.fit in
     let scratch : l.scratch_len ≡ scratch_length f = scratch_is known.whole in
     let all : scratch_length f ≤ length planes = omega (arith, ltb-false (length planes) l.scratch_len (sound-here (sound_back (asked_faults l each) _ sound)), scratch) in
     let long : length (file_of f each planes) ≡ n = length_file f each planes fit all ∙ done-value (write_faults l each planes old) (file_length f each) n accepted in
-    let done_so : Promise (unless (write_faults l each planes old) (file_length f each)) (file_of f each planes) old (done n) new = record { answers = sym (ap written_outcome e) ∙ p.answers; leaves = p.leaves } in
+    let done_so : Promise (unless (write_faults l each planes old) (file_length f each)) (file_of f each planes) old (done n) new = record { answers = sym (ap outcome e) ∙ p.answers; leaves = p.leaves } in
     let wrote : take n new ≡ file_of f each planes = ap (λ (m : ℕ). take m new) (sym long) ∙ writes n new done_so in
     subst (λ (file : List ℕ). ReadBack f each planes file) (sym wrote) (file_back f each planes fit all)

@@ -1,6 +1,6 @@
 -- A written file (rules 15.1 to 15.6): its entries, its values, its strips, what it is served for, and what the calls promise. Assumes nothing.
 use Rattle.std.specs.Prelude.{ℕ, ◌+◌, ◌*◌, ◌≡◌, Bool, not, ◌&&◌, ◌||◌, List, [], ◌∷◌, ◌++◌, length, take, drop, get_or, eqb, ltb, leb}
-use Rattle.answer.specs.Outcome.{Outcome, done, refused, number, Fault, unless, unsupported, invalid, truncated, output_too_small, pick, Promise}
+use Rattle.answer.specs.Outcome.{Outcome, done, refused, number, Fault, unless, unsupported, invalid, truncated, output_too_small, pick, Promise, outcome, Answer}
 use Rattle.answer.specs.Table.{table}
 use Rattle.laws.specs.Turns.{sum, end_to_end}
 use Rattle.words.specs.Digits.{digit, value}
@@ -11,8 +11,6 @@ use Rattle.entries.specs.Entries.{II, SHORT, LONG}
 use Rattle.tags.specs.Tags.{strips_per_plane}
 use Rattle.directory.specs.Page.{strip_rows}
 use Rattle.directory.specs.declared.Page.{Page}
-use Rattle.files.specs.declared.Written.{Written}
-use Rattle.files.specs.declared.Written.TheVariants as WrittenIs
 
 -- a number of so many bytes, the least significant first; and several
 abbrev pub stored : ℕ → ℕ → List ℕ
@@ -171,16 +169,12 @@ room_faults l each planes old =
 abbrev pub write_faults : RasterLayout → ℕ → List ℕ → List ℕ → List Fault
 write_faults l each planes old = asked_faults l each ++ room_faults l each planes old
 
-abbrev pub written_outcome : Written → Outcome ℕ
-written_outcome (WrittenIs.Length n) = done n
-written_outcome (WrittenIs.Refused k) = refused (number k)
+abbrev pub Measured : RasterLayout → ℕ → Answer ℕ → Type 0
+Measured l each answer = outcome answer ≡ unless (asked_faults l each) (file_length l.fields each)
 
-abbrev pub Measured : RasterLayout → ℕ → Written → Type 0
-Measured l each answer = written_outcome answer ≡ unless (asked_faults l each) (file_length l.fields each)
-
-abbrev pub FileWritten : RasterLayout → ℕ → List ℕ → List ℕ → Written → List ℕ → Type 0
+abbrev pub FileWritten : RasterLayout → ℕ → List ℕ → List ℕ → Answer ℕ → List ℕ → Type 0
 FileWritten l each planes old answer new =
-    Promise (unless (write_faults l each planes old) (file_length l.fields each)) (file_of l.fields each planes) old (written_outcome answer) new
+    Promise (unless (write_faults l each planes old) (file_length l.fields each)) (file_of l.fields each planes) old (outcome answer) new
 
 -- the page that the reader finds in the file: the layout with a map of 0, no prediction, all strips, no compression
 abbrev pub without_map : Fields → Fields

@@ -1,7 +1,7 @@
 // A TIFF file of one page, written from planes: what it is served for, how long it is, and the file itself, which `directory` reads back.
 #![tactic(auto)]
 
-use answer::{Done, Refusal, fault, first_of};
+use answer::{Refusal, fault, first_of};
 use layout::{Fields, RasterLayout};
 
 mod front;
@@ -16,13 +16,6 @@ ghost use Rattle.files.specs.Parts.{Ready, FilePut};
 
 use plan::{Plan, plan_of};
 
-// The answer of `file_length` and of `write_file`: the file's bytes.
-#[derive(Clone, Copy)]
-pub enum Written {
-    Length(usize),
-    Refused(Refusal),
-}
-
 // Whether files of a layout are written.
 fn served(f: Fields) -> bool
     ensures { result ≡ servedOf f }
@@ -34,7 +27,7 @@ fn served(f: Fields) -> bool
 }
 
 // All faults but those of the buffers.
-fn check_asked(l: RasterLayout, rows_per_strip: usize) -> Done
+fn check_asked(l: RasterLayout, rows_per_strip: usize) -> Result<(), Refusal>
     ensures { Step (asked_faults l rows_per_strip) result }
 {
     let f = l.fields;
@@ -48,16 +41,12 @@ fn check_asked(l: RasterLayout, rows_per_strip: usize) -> Done
 }
 
 // The bytes of the file that `write_file` writes.
-pub fn file_length(l: RasterLayout, rows_per_strip: usize) -> Written
+pub fn file_length(l: RasterLayout, rows_per_strip: usize) -> Result<usize, Refusal>
     ensures { Measured l rows_per_strip result }
 {
-    match check_asked(l, rows_per_strip) {
-        Done::Refused(k) => Written::Refused(k),
-        Done::Done => {
-            let p = plan_of(l, rows_per_strip);
-            Written::Length(p.length)
-        }
-    }
+    check_asked(l, rows_per_strip)?;
+    let p = plan_of(l, rows_per_strip);
+    Ok(p.length)
 }
 
 // The front of the file, and behind it the planes as they are.
@@ -74,21 +63,22 @@ fn put_file(l: RasterLayout, p: Plan, planes: &[u8], out: &mut [u8])
 }
 
 // A file of one page whose strips are the planes, each of so many rows and the last of a plane of what is left.
-pub fn write_file(l: RasterLayout, rows_per_strip: usize, planes: &[u8], out: &mut [u8]) -> Written
+pub fn write_file(
+    l: RasterLayout,
+    rows_per_strip: usize,
+    planes: &[u8],
+    out: &mut [u8],
+) -> Result<usize, Refusal>
     ensures { FileWritten l rows_per_strip planes.now out.old result out.new }
 {
-    match check_asked(l, rows_per_strip) {
-        Done::Refused(k) => Written::Refused(k),
-        Done::Done => {
-            if planes.len() < l.scratch_len {
-                return Written::Refused(Refusal::Truncated);
-            }
-            let p = plan_of(l, rows_per_strip);
-            if out.len() < p.length {
-                return Written::Refused(Refusal::OutputTooSmall);
-            }
-            put_file(l, p, planes, out);
-            Written::Length(p.length)
-        }
+    check_asked(l, rows_per_strip)?;
+    if planes.len() < l.scratch_len {
+        return Err(Refusal::Truncated);
     }
+    let p = plan_of(l, rows_per_strip);
+    if out.len() < p.length {
+        return Err(Refusal::OutputTooSmall);
+    }
+    put_file(l, p, planes, out);
+    Ok(p.length)
 }

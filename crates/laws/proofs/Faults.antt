@@ -1,11 +1,10 @@
 -- A list of faults of which the first ones were looked for and not found; and what an answer says of the faults that its promise lists. Assumes nothing.
+use Rattle.std.specs.Prelude.{Ok, Err}
 use mathlib.Core.Path.{◌≡◌, refl, sym, ap, ◌∙◌}
 use mathlib.Core.Bool.{false}
 use mathlib.Core.List.{List, [], ◌∷◌, ◌++◌}
 use Prim.Native.Nat.{ℕ}
-use Rattle.answer.specs.declared.Done.{Done}
-use Rattle.answer.specs.declared.Done.TheVariants as DoneIs
-use Rattle.answer.specs.Outcome.{Outcome, done, refused, Fault, unless, First, Sound, none, next, Step}
+use Rattle.answer.specs.Outcome.{Outcome, done, refused, Fault, unless, First, Sound, none, next, Step, Done}
 use Rattle.answer.proofs.Promised.{done-value, done-sound, refused-first, refusing, finishing, sound_then, sound_more, step-sound, step-first}
 
 -- the faults fs, of which those before gs are not found
@@ -24,8 +23,8 @@ past_one {fs} {f} p e = past_more (f ∷ []) p (next e none)
 
 -- a step that looked for the rest looked for all
 pub past_step : {fs gs : List Fault} (a : Done) → Past fs gs → Step gs a → Step fs a
-past_step {fs} DoneIs.Done p s = record { passed = finishing fs tt (p.sound (step-sound s refl)) }
-past_step {fs} (DoneIs.Refused k) p s = record { passed = refusing fs tt (p.first (step-first s refl)) }
+past_step {fs} (Ok tt) p s = record { passed = finishing fs tt (p.sound (step-sound s refl)) }
+past_step {fs} (Err k) p s = record { passed = refusing fs tt (p.first (step-first s refl)) }
 
 -- an answer that is the work: no fault was found; one that is a refusal: the first fault's
 module _ {R A : Type 0} (outcome : R → Outcome A) (fs : List Fault) (a : A) {r known : R} (promised : outcome r ≡ unless fs a) (e : r ≡ known) where

@@ -1,5 +1,6 @@
 -- Rules 5.5 to 5.9: the check accepts exactly upstream's `valid` within the limits, and answers the only such record; the record check
 -- accepts what the check answers; `index` answers a place below the scratch length; the map offset is never a reason. Assumes nothing.
+use Rattle.std.specs.Prelude.{Ok}
 use Prim.Native.Nat.{ℕ, ◌≤◌, ◌<◌}
 use mathlib.Core.Path.{◌≡◌, refl, sym, ap, subst, ◌∙◌}
 use mathlib.Core.Bool.{Bool, true, false}
@@ -8,16 +9,11 @@ use mathlib.Core.Logic.{inl, inr, ⊎_elim}
 use native.Mathlib.Omega.{arith}
 use borrow.Author.Tests.{leb-false}
 use lib.Dec.{leb}
-use Rattle.answer.specs.Outcome.{Sound, next, none, done, invalid}
+use Rattle.answer.specs.Outcome.{Sound, next, none, done, invalid, Answer, Done}
 use Rattle.answer.specs.declared.ByteAt.{ByteAt}
-use Rattle.answer.specs.declared.Done.{Done}
-use Rattle.answer.specs.declared.Done.TheVariants as DoneIs
-use Rattle.answer.proofs.Promised.{done-sound, done-value, done_once, sound-done, sound-here, sound-front, sound_more, sound_back}
+use Rattle.answer.proofs.Promised.{done-sound, done-value, answer_once, sound-done, sound-here, sound-front, sound_more, sound_back}
 use Rattle.layout.specs.declared.Fields.{Fields}
 use Rattle.layout.specs.declared.RasterLayout.{RasterLayout}
-use Rattle.layout.specs.declared.Checked.{Checked}
-use Rattle.layout.specs.declared.Checked.TheVariants as CheckedIs
-use Rattle.layout.specs.declared.Place.TheVariants as PlaceIs
 use Rattle.layout.specs.Layout.{completed, encoded_width, plane_channels, planes, plane_length, scratch_length, output_length, colours, eight_rule, alpha_rule, palette_rule, slots_rule, agreement, layout_faults, record_faults, index_faults, source_index, LayoutChecked, RecordChecked, Indexed}
 use Rattle.layout.specs.Valid.{Valid, Within}
 use Rattle.laws.proofs.Says.{held}
@@ -25,7 +21,7 @@ use Rattle.layout.proofs.Accepted.{Accepted, accepted, all_asked, OneTwoEight, A
 use Rattle.layout.proofs.Sizes.{scratch_within}
 use Rattle.layout.proofs.Whole.{record_of, agreed_whole, record_whole, record_accepted, record_agreed}
 use Rattle.layout.proofs.Placed.{source_below}
-use Rattle.layout.proofs.Determined.{checked_once}
+use Rattle.answer.proofs.Promised.{answer_once}
 
 -- what the steps accept is valid, once it is completed
 pub accepted_valid : (f : Fields) → Sound (layout_faults f) → Valid (completed f) × Within (completed f)
@@ -99,46 +95,46 @@ pub only_record : (f : Fields) (l : RasterLayout) → Valid l → l.fields ≡ f
 only_record f l v e = agreed_whole l (valid_agrees l v) ∙ ap completed e
 
 -- of the check itself: it answers a record exactly if that record is valid and within the limits, and says what the caller said
-pub checked_valid : (f : Fields) (l : RasterLayout) → LayoutChecked f (CheckedIs.Done l) → (Valid l × Within l) × (l.fields ≡ f)
+pub checked_valid : (f : Fields) (l : RasterLayout) → LayoutChecked f (Ok l) → (Valid l × Within l) × (l.fields ≡ f)
 checked_valid f l p =
     subst (λ (x : RasterLayout). (Valid x × Within x) × (x.fields ≡ f)) (done-value (layout_faults f) (completed f) l (sym p))
     (accepted_valid f (done-sound (layout_faults f) (completed f) l (sym p)), refl)
 
-pub valid_checked : (l : RasterLayout) (answer : Checked) → Valid l → Within l → LayoutChecked l.fields answer → answer ≡ CheckedIs.Done l
+pub valid_checked : (l : RasterLayout) (answer : Answer RasterLayout) → Valid l → Within l → LayoutChecked l.fields answer → answer ≡ Ok l
 valid_checked l answer v t p =
-    let good = valid_accepted l v t in checked_once answer (CheckedIs.Done l) (p ∙ sound-done (completed l.fields) good.0 ∙ ap done (sym good.1))
+    let good = valid_accepted l v t in answer_once answer (Ok l) (p ∙ sound-done (completed l.fields) good.0 ∙ ap done (sym good.1))
 
 -- of the record check: it is content exactly with a record that is valid and within the limits
 pub record_sound : (l : RasterLayout) → Sound (layout_faults l.fields) → Agreement l (completed l.fields) → Sound (record_faults l)
 record_sound l s a = sound_more s (next (held ((agrees l (completed l.fields)).told a)) none)
 
-pub record_valid : (l : RasterLayout) → RecordChecked l DoneIs.Done → Valid l × Within l
+pub record_valid : (l : RasterLayout) → RecordChecked l (Ok tt) → Valid l × Within l
 record_valid l p =
     let s = done-sound (record_faults l) tt tt (sym p) in
     subst (λ (x : RasterLayout). Valid x × Within x) (sym (record_whole l s)) (accepted_valid l.fields (all_asked l.fields (record_accepted l s)))
 
-pub valid_record : (l : RasterLayout) (answer : Done) → Valid l → Within l → RecordChecked l answer → answer ≡ DoneIs.Done
+pub valid_record : (l : RasterLayout) (answer : Done) → Valid l → Within l → RecordChecked l answer → answer ≡ (Ok tt)
 valid_record l answer v t p =
-    done_once answer DoneIs.Done (p ∙ sound-done tt (record_sound l (valid_accepted l v t).0 (valid_agrees l v)))
+    answer_once answer (Ok tt) (p ∙ sound-done tt (record_sound l (valid_accepted l v t).0 (valid_agrees l v)))
 
 -- a record that the check answers has no fault, so the record check accepts it
-pub answered_sound : (f : Fields) (l : RasterLayout) → LayoutChecked f (CheckedIs.Done l) → Sound (record_faults l)
+pub answered_sound : (f : Fields) (l : RasterLayout) → LayoutChecked f (Ok l) → Sound (record_faults l)
 answered_sound f l p =
     let good = (checked_valid f l p).0 in record_sound l (valid_accepted l good.0 good.1).0 (valid_agrees l good.0)
 
-pub answered_accepted : (f : Fields) (l : RasterLayout) (answer : Done) → LayoutChecked f (CheckedIs.Done l) → RecordChecked l answer → answer ≡ DoneIs.Done
-answered_accepted f l answer p q = done_once answer DoneIs.Done (q ∙ sound-done tt (answered_sound f l p))
+pub answered_accepted : (f : Fields) (l : RasterLayout) (answer : Done) → LayoutChecked f (Ok l) → RecordChecked l answer → answer ≡ (Ok tt)
+answered_accepted f l answer p q = answer_once answer (Ok tt) (q ∙ sound-done tt (answered_sound f l p))
 
 -- scratch length never exceeds output length
 pub scratch_within_output : (l : RasterLayout) → Sound (record_faults l) → l.scratch_len ≤ l.output_len
 scratch_within_output l s =
     omega (arith, scratch_within l.fields (record_accepted l s), (record_agreed l s).scratch_length_lem, (record_agreed l s).output_length_lem)
 
-pub answered_scratch : (f : Fields) (l : RasterLayout) → LayoutChecked f (CheckedIs.Done l) → l.scratch_len ≤ l.output_len
+pub answered_scratch : (f : Fields) (l : RasterLayout) → LayoutChecked f (Ok l) → l.scratch_len ≤ l.output_len
 answered_scratch f l p = scratch_within_output l (answered_sound f l p)
 
 -- `index` answers a place below the scratch length
-pub index_below_scratch : (l : RasterLayout) (k : ℕ) (at : ByteAt) → Indexed l k (PlaceIs.Done at) → at.0 < l.scratch_len
+pub index_below_scratch : (l : RasterLayout) (k : ℕ) (at : ByteAt) → Indexed l k (Ok at) → at.0 < l.scratch_len
 index_below_scratch l k at p =
     let s = done-sound (index_faults l k) (source_index l k) at.0 (sym p) in
     let here = done-value (index_faults l k) (source_index l k) at.0 (sym p) in

@@ -1,14 +1,10 @@
 -- Layouts (rules 5.1 to 5.9): what a caller says, what follows from it, the faults in their order, and where a byte comes from.
 -- Assumes nothing.
 use Rattle.std.specs.Prelude.{ℕ, ◌+◌, ◌-◌, ◌*◌, ◌/◌, ◌%◌, ◌≤◌, ◌<◌, ◌≡◌, Bool, not, ◌&&◌, ◌||◌, List, [], ◌∷◌, ◌++◌, eqb, ltb, leb}
-use Rattle.answer.specs.Outcome.{Outcome, done, refused, Fault, unless, unsupported, invalid, limit, number, pick, done_outcome, Sound}
-use Rattle.answer.specs.declared.Done.{Done}
+use Rattle.answer.specs.Outcome.{Outcome, done, refused, Fault, unless, unsupported, invalid, limit, number, pick, Sound, outcome, place_outcome, Answer, Done}
+use Rattle.answer.specs.declared.ByteAt.{ByteAt}
 use Rattle.layout.specs.declared.Fields.{Fields}
 use Rattle.layout.specs.declared.RasterLayout.{RasterLayout}
-use Rattle.layout.specs.declared.Checked.{Checked}
-use Rattle.layout.specs.declared.Checked.TheVariants as CheckedIs
-use Rattle.layout.specs.declared.Place.{Place}
-use Rattle.layout.specs.declared.Place.TheVariants as PlaceIs
 
 -- what follows: bytes of a row of a plane, bytes at a place of a plane, planes, lengths, and colours of a palette
 unfoldable pub encoded_width : Fields → ℕ
@@ -154,21 +150,12 @@ pub record SampleWithin (l : RasterLayout) (p c : ℕ) : Type 0 where
 abbrev pub index_faults : RasterLayout → ℕ → List Fault
 index_faults l k = record_faults l ++ (invalid (leb l.output_len k) ∷ [])
 
--- the numbers (rule 1.1) and values of the answers
-abbrev pub checked_outcome : Checked → Outcome RasterLayout
-checked_outcome (CheckedIs.Done l) = done l
-checked_outcome (CheckedIs.Refused k) = refused (number k)
-
-abbrev pub place_outcome : Place → Outcome ℕ
-place_outcome (PlaceIs.Done at) = done at.0
-place_outcome (PlaceIs.Refused k) = refused (number k)
-
 -- what the functions promise
-abbrev pub LayoutChecked : Fields → Checked → Type 0
-LayoutChecked f answer = checked_outcome answer ≡ unless (layout_faults f) (completed f)
+abbrev pub LayoutChecked : Fields → Answer RasterLayout → Type 0
+LayoutChecked f answer = outcome answer ≡ unless (layout_faults f) (completed f)
 
 abbrev pub RecordChecked : RasterLayout → Done → Type 0
-RecordChecked l answer = done_outcome answer ≡ unless (record_faults l) tt
+RecordChecked l answer = outcome answer ≡ unless (record_faults l) tt
 
-abbrev pub Indexed : RasterLayout → ℕ → Place → Type 0
+abbrev pub Indexed : RasterLayout → ℕ → Answer ByteAt → Type 0
 Indexed l k answer = place_outcome answer ≡ unless (index_faults l k) (source_index l k)

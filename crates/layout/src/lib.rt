@@ -1,7 +1,7 @@
 // Layouts of pictures: what a caller says of one, what follows from it, whether it can be, and where a byte of the picture comes from.
 #![tactic(auto)]
 
-use answer::{ByteAt, Done, Refusal, fault, first_of};
+use answer::{ByteAt, Refusal, fault, first_of};
 
 mod derived;
 mod rules;
@@ -40,40 +40,22 @@ pub struct RasterLayout {
     pub colors: usize,
 }
 
-// The answer of `check_layout`.
-#[derive(Clone, Copy)]
-pub enum Checked {
-    Done(RasterLayout),
-    Refused(Refusal),
-}
-
-// The answer of `index`.
-#[derive(Clone, Copy)]
-pub enum Place {
-    Done(ByteAt),
-    Refused(Refusal),
-}
-
 // The three steps, in rule 5.3's order. The third multiplies, so it waits for what the first shows.
-fn check_fields(f: Fields) -> Done
+fn check_fields(f: Fields) -> Result<(), Refusal>
     ensures { Step (layout_faults f) result }
 {
     let served = rules::check_served(f);
     let agreed = rules::check_agreed(f);
-    match first_of(served, agreed) {
-        Done::Refused(k) => Done::Refused(k),
-        Done::Done => rules::check_size(f),
-    }
+    first_of(served, agreed)?;
+    rules::check_size(f)
 }
 
 // The full record of a picture, if there is one.
-pub fn check_layout(f: Fields) -> Checked
+pub fn check_layout(f: Fields) -> Result<RasterLayout, Refusal>
     ensures { LayoutChecked f result }
 {
-    match check_fields(f) {
-        Done::Refused(k) => Checked::Refused(k),
-        Done::Done => Checked::Done(derived::complete(f)),
-    }
+    check_fields(f)?;
+    Ok(derived::complete(f))
 }
 
 // Whether a record says of itself what follows from the rest of it.
@@ -90,28 +72,22 @@ fn agrees(l: RasterLayout, right: RasterLayout) -> bool
 }
 
 // Whether a record, by hand or not, is the one that the check answers.
-pub fn check_record(l: RasterLayout) -> Done
+pub fn check_record(l: RasterLayout) -> Result<(), Refusal>
     ensures { RecordChecked l result }
 {
     let f = l.fields;
-    match check_fields(f) {
-        Done::Refused(k) => Done::Refused(k),
-        Done::Done => fault(!agrees(l, derived::complete(f)), Refusal::Invalid),
-    }
+    check_fields(f)?;
+    fault(!agrees(l, derived::complete(f)), Refusal::Invalid)
 }
 
 // Where byte k of the picture comes from.
-pub fn index(l: RasterLayout, k: ByteAt) -> Place
+pub fn index(l: RasterLayout, k: ByteAt) -> Result<ByteAt, Refusal>
     ensures { Indexed l k.0 result }
 {
-    match check_record(l) {
-        Done::Refused(kind) => Place::Refused(kind),
-        Done::Done => {
-            let k = k.0;
-            if l.output_len <= k {
-                return Place::Refused(Refusal::Invalid);
-            }
-            Place::Done(ByteAt(source::source_index(l, k)))
-        }
+    check_record(l)?;
+    let k = k.0;
+    if l.output_len <= k {
+        return Err(Refusal::Invalid);
     }
+    Ok(ByteAt(source::source_index(l, k)))
 }

@@ -4,7 +4,7 @@ ghost use Rattle.answer.specs.Outcome.{Sound, Step};
 ghost use Rattle.layout.specs.Layout.{eight_rule, alpha_rule, palette_rule, slots_rule, served_faults, agreed_faults, size_faults};
 
 use crate::Fields;
-use answer::{Done, Refusal, fault, first_of};
+use answer::{Refusal, fault, first_of};
 
 // The largest width and height.
 const SIDE_LIMIT: usize = 16384;
@@ -13,7 +13,7 @@ const SIDE_LIMIT: usize = 16384;
 const BYTE_LIMIT: usize = 1073741824;
 
 // Step 1: what is not served.
-pub(crate) fn check_served(f: Fields) -> Done
+pub(crate) fn check_served(f: Fields) -> Result<(), Refusal>
     ensures { Step (served_faults f) result }
 {
     let bytes = fault(
@@ -68,7 +68,7 @@ fn slots_rule(f: Fields) -> bool
 }
 
 // Step 2: what contradicts itself.
-pub(crate) fn check_agreed(f: Fields) -> Done
+pub(crate) fn check_agreed(f: Fields) -> Result<(), Refusal>
     ensures { Step (agreed_faults f) result }
 {
     let narrow = fault(f.w == 0, Refusal::Invalid);
@@ -82,18 +82,18 @@ pub(crate) fn check_agreed(f: Fields) -> Done
 }
 
 // Step 3: what is too large. Within the first limit the product cannot wrap.
-pub(crate) fn check_size(f: Fields) -> Done
+pub(crate) fn check_size(f: Fields) -> Result<(), Refusal>
     requires { Sound (served_faults f) }
     ensures { Step (size_faults f) result }
 {
     if SIDE_LIMIT < f.w {
-        return Done::Refused(Refusal::Limit);
+        return Err(Refusal::Limit);
     }
     if SIDE_LIMIT < f.h {
-        return Done::Refused(Refusal::Limit);
+        return Err(Refusal::Limit);
     }
     if BYTE_LIMIT < f.w * f.h * f.ch * f.bytes {
-        return Done::Refused(Refusal::Limit);
+        return Err(Refusal::Limit);
     }
-    Done::Done
+    Ok(())
 }

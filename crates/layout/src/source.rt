@@ -52,8 +52,8 @@ fn plain_index(l: RasterLayout, k: usize) -> usize
     let c = high_first(l.fields.bytes, l.fields.le, k % stride);
     let sample = sample_of(l, k / stride, c / l.fields.bytes);
     match words::byte_place(sample, l.fields.bytes, l.scratch_len) {
-        words::Place::At(at) => at.0 + c % l.fields.bytes,
-        words::Place::Refused(_) => 0,
+        Ok(at) => at.0 + c % l.fields.bytes,
+        Err(_) => 0,
     }
 }
 

@@ -1,4 +1,5 @@
 -- A plan is accepted exactly if it keeps the rules in plain words, given room (rule 17.8). Assumes nothing.
+use Rattle.std.specs.Prelude.{Ok}
 use Prim.Native.Nat.{ℕ, zero, suc, ◌+◌, ◌-◌, ◌≤◌}
 use mathlib.Core.Path.{◌≡◌, sym, ap, ◌∙◌}
 use mathlib.Core.Bool.{true}
@@ -11,13 +12,12 @@ use lib.ListN.{length, get_or, drop, length-drop}
 use lib.Seq.{get_or-drop, drop-drop}
 use lib.Dec.{eqb}
 use Rattle.answer.proofs.Promised.{done-sound, sound-done, sound-here, sound_rest}
+use Rattle.answer.specs.Outcome.{Answer}
 use Rattle.laws.proofs.Joined.{sum-within}
 use Rattle.laws.proofs.Turns.{every_one, every-all}
 use Rattle.laws.proofs.Says.{and_left}
-use Rattle.packbits.specs.declared.Packed.{Packed}
-use Rattle.packbits.specs.declared.Packed.TheVariants as PackedIs
 use Rattle.packbits.specs.Plans.{plan_of, alike, literal_rule, repeat_rule, kept, keeps, start_of, PacketRule, literal, repeat, PlanRules, plan_bytes, plan_faults, PlanWritten}
-use Rattle.packbits.proofs.Determined.{length_once}
+use Rattle.answer.proofs.Promised.{answer_once}
 use Rattle.packbits.proofs.Onward.{first-at, used_up}
 use Rattle.packbits.proofs.Planning.{kept-is, planned-at, plan_from, plan-next, plan_end, Checked, checked_none, checked_on, checked_end, next-kept}
 use Rattle.packbits.proofs.Putting.{plan-long, plan-sound}
@@ -74,14 +74,14 @@ module _ (row kinds lengths : List ℕ) where
       }
 
 -- every plan that keeps the rules is accepted, given room; and no other
-pub plan_accepted : (row kinds lengths old : List ℕ) → PlanRules row kinds lengths → let bytes = plan_bytes row (plan_of kinds lengths) in length bytes ≤ length old → (answer : Packed) (new : List ℕ) → PlanWritten row kinds lengths old answer new → answer ≡ PackedIs.Length (length bytes)
+pub plan_accepted : (row kinds lengths old : List ℕ) → PlanRules row kinds lengths → let bytes = plan_bytes row (plan_of kinds lengths) in length bytes ≤ length old → (answer : Answer ℕ) (new : List ℕ) → PlanWritten row kinds lengths old answer new → answer ≡ Ok (length bytes)
 plan_accepted row kinds lengths old r room answer new p =
     let plan = plan_of kinds lengths in
     let keep : keeps row plan ≡ true = keeps_from row kinds lengths r (length kinds) 0 (omega arith) in
     let sound = plan-sound row kinds lengths old r.paired keep (rw (plan-long row plan keep) at room) in
-    length_once answer (PackedIs.Length (length (plan_bytes row plan))) (p.answers ∙ sound-done (length (plan_bytes row plan)) sound)
+    answer_once answer (Ok (length (plan_bytes row plan))) (p.answers ∙ sound-done (length (plan_bytes row plan)) sound)
 
-pub accepted_keeps : (row kinds lengths old : List ℕ) (n : ℕ) (new : List ℕ) → PlanWritten row kinds lengths old (PackedIs.Length n) new → PlanRules row kinds lengths
+pub accepted_keeps : (row kinds lengths old : List ℕ) (n : ℕ) (new : List ℕ) → PlanWritten row kinds lengths old (Ok n) new → PlanRules row kinds lengths
 accepted_keeps row kinds lengths old n new p =
     let sound = done-sound (plan_faults row kinds lengths old) (length (plan_bytes row (plan_of kinds lengths))) n (sym p.answers) in
     rules_of row kinds lengths (eqb-true (length kinds) (length lengths) (not-false (eqb (length kinds) (length lengths)) (sound-here sound))) (not-false (keeps row (plan_of kinds lengths)) (sound-here (sound_rest sound)))

@@ -1,4 +1,5 @@
 -- A row's packets one by one: the next, its faults and its bytes, and what a look at the headers and a filled row have behind them. Assumes nothing.
+use Rattle.std.specs.Prelude.{Err}
 use Prim.Native.Nat.{ℕ, zero, suc, ◌+◌, ◌-◌, ◌*◌, ◌≤◌, ◌<◌}
 use mathlib.Core.Path.{◌≡◌, refl, sym, ap, ◌∙◌}
 use mathlib.Core.Bool.{Bool, true, false, not, ◌&&◌}
@@ -9,10 +10,8 @@ use borrow.Author.Tests.{ltb-true, ltb-false, leb-true, eqb-true, eqb-false, eq-
 use lib.ListN.{length, get_or, take, drop, length-drop, length-append}
 use lib.Seq.{get_or-drop, drop-drop, length-take-le, take_all}
 use lib.Dec.{eqb, ltb, leb}
-use Rattle.answer.specs.declared.Done.{Done}
-use Rattle.answer.specs.declared.Done.TheVariants as DoneIs
 use Rattle.answer.specs.declared.Refusal.TheVariants.{Invalid, Truncated}
-use Rattle.answer.specs.Outcome.{Fault, Sound, none, next, First, here, pick, truncated, fault_of, Step, InOrder}
+use Rattle.answer.specs.Outcome.{Fault, Sound, none, next, First, here, pick, truncated, fault_of, Step, InOrder, Done}
 use Rattle.answer.proofs.Promised.{refusing, first_more, sound-front, sound_back, sound-here, sound_rest}
 use Rattle.answer.specs.Table.{table}
 use Rattle.answer.proofs.Filling.{length-table}
@@ -119,7 +118,7 @@ fits-at packed at left s =
     record { inside = omega arith; some = takes-some (get_or packed at 0); passes = rw same at fit.passes; whole = omega arith }
 
 -- what `check_packet` finds: the packet is not there, or the two other faults in their order
-pub missing : (packed : List ℕ) (at left : ℕ) → length packed ≤ at → Step (packet_faults (begun packed at left)) (DoneIs.Refused Truncated)
+pub missing : (packed : List ℕ) (at left : ℕ) → length packed ≤ at → Step (packet_faults (begun packed at left)) (Err Truncated)
 unfolding packet_faults
 missing packed at left h =
     record { passed = refusing (packet_faults (begun packed at left)) tt (here (eq-eqb (length (drop at packed)) 0 (length-drop at packed ∙ omega arith))) }

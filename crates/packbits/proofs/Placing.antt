@@ -8,9 +8,9 @@ use borrow.Author.Tests.{leb-true}
 use lib.ListN.{length, take, drop, length-drop}
 use lib.Dec.{leb}
 use lib.Seq.{length-take-le, take-take}
-use Rattle.answer.specs.declared.Done.{Done}
 use Rattle.answer.specs.Table.{table}
 use Rattle.answer.proofs.Filling.{length-table, table_at, table_same}
+use Rattle.answer.specs.Outcome.{Done}
 use Rattle.laws.proofs.Lists.{own_front}
 use Rattle.transport.specs.Moved.{Committed}
 use Rattle.transport.proofs.Copied.{copied}

@@ -1,4 +1,5 @@
 -- Rows that are written read back: by a plan that is accepted, and without one (rules 17.9 and 17.10). Assumes nothing.
+use Rattle.std.specs.Prelude.{Ok}
 use Prim.Native.Nat.{ℕ, ◌+◌, ◌-◌, ◌≤◌, ◌<◌}
 use mathlib.Core.Path.{◌≡◌, refl, sym, ap, ◌∙◌}
 use mathlib.Core.Bool.{Bool, true, false}
@@ -8,15 +9,12 @@ use borrow.Author.Tests.{eqb-true, eqb-false, lt-ltb, le-ltb, not-false}
 use lib.ListN.{length, get_or, take, drop, take-append-drop, length-drop, length-append, drop_of_length-le}
 use lib.Seq.{drop_at, take_at, length-take-le}
 use lib.Dec.{eqb}
-use Rattle.answer.specs.Outcome.{Outcome, Sound, none, done, after, pick}
+use Rattle.answer.specs.Outcome.{Outcome, Sound, none, done, after, pick, Answer}
 use Rattle.answer.proofs.Promised.{sound_more, writes, done-sound, done-value, sound-done, sound-here, sound_rest}
 use Rattle.answer.proofs.Filling.{table_same}
 use Rattle.laws.proofs.Lists.{own_front}
 use Rattle.laws.proofs.Turns.{every_one}
 use Rattle.laws.proofs.Says.{and_left, and_right}
-use Rattle.packbits.specs.declared.Unpacked.{Unpacked}
-use Rattle.packbits.specs.declared.Unpacked.TheVariants as UnpackedIs
-use Rattle.packbits.specs.declared.Packed.TheVariants as PackedIs
 use Rattle.packbits.specs.Rows.{fills, takes, Packet, header, behind, packets, packet_bytes, bytes_of, taken_by, row_faults, row_bytes, used, RowUnpacked}
 use Rattle.packbits.specs.Plans.{Planned, plan_of, kept, keeps, packet_of, plan_bytes, plain_plan, literals_of, plan_faults, pack_faults, PlanWritten, RowPacked}
 use Rattle.packbits.proofs.Determined.{answer_once}
@@ -106,15 +104,15 @@ plan_reads row (p ∷ plan) more e =
     rw (append_assoc bytes (plan_bytes rest plan) more, length-append bytes (plan_bytes rest plan)) (reads_on bytes (plan_bytes rest plan ++ more) row p.bytes (length (plan_bytes rest plan)) (packs row (plan_bytes rest plan ++ more) p fit) on)
 
 -- what a call that reads such an input answers and leaves
-unpacked : (input row : List ℕ) (n : ℕ) → ReadsAs input row n → (old : List ℕ) → length old ≡ length row → (answer : Unpacked) (new : List ℕ) → RowUnpacked input old answer new → (answer ≡ UnpackedIs.Used n) × (new ≡ row)
+unpacked : (input row : List ℕ) (n : ℕ) → ReadsAs input row n → (old : List ℕ) → length old ≡ length row → (answer : Answer ℕ) (new : List ℕ) → RowUnpacked input old answer new → (answer ≡ Ok n) × (new ≡ row)
 unpacked input row n is old long answer new p =
     let same : Sound (row_faults input (length old)) = rw long is.sound in
     let all : row_bytes input (length old) ≡ row = ap (row_bytes input) long ∙ is.fills-row in
     let finished = sound-done (used input (length old)) same in
-    (answer_once answer (UnpackedIs.Used n) (p.answers ∙ finished ∙ ap done (ap (used input) long ∙ is.takes_all)), p.leaves ∙ ap (λ (o : Outcome ℕ). after o (row_bytes input (length old)) old) finished ∙ ap (λ (l : List ℕ). l ++ drop (length l) old) all ∙ ap (λ (l : List ℕ). row ++ l) (drop_of_length-le old {i = length row} (omega arith)) ∙ append-nil row)
+    (answer_once answer (Ok n) (p.answers ∙ finished ∙ ap done (ap (used input) long ∙ is.takes_all)), p.leaves ∙ ap (λ (o : Outcome ℕ). after o (row_bytes input (length old)) old) finished ∙ ap (λ (l : List ℕ). l ++ drop (length l) old) all ∙ ap (λ (l : List ℕ). row ++ l) (drop_of_length-le old {i = length row} (omega arith)) ∙ append-nil row)
 
 -- an accepted plan's bytes unpack to the row, all of them used, whatever stands behind them
-pub plan_reads_back : (row kinds lengths old : List ℕ) (n : ℕ) (new : List ℕ) → PlanWritten row kinds lengths old (PackedIs.Length n) new → (more row₀ : List ℕ) → length row₀ ≡ length row → (answer : Unpacked) (read : List ℕ) → RowUnpacked (take n new ++ more) row₀ answer read → (answer ≡ UnpackedIs.Used n) × (read ≡ row)
+pub plan_reads_back : (row kinds lengths old : List ℕ) (n : ℕ) (new : List ℕ) → PlanWritten row kinds lengths old (Ok n) new → (more row₀ : List ℕ) → length row₀ ≡ length row → (answer : Answer ℕ) (read : List ℕ) → RowUnpacked (take n new ++ more) row₀ answer read → (answer ≡ Ok n) × (read ≡ row)
 plan_reads_back row kinds lengths old n new w more row₀ long answer read p =
     let plan = plan_of kinds lengths in
     let faults = plan_faults row kinds lengths old in
@@ -125,7 +123,7 @@ plan_reads_back row kinds lengths old n new w more row₀ long answer read p =
     unpacked (take n new ++ more) row n (rw (wrote, ← is) (plan_reads row plan more keep)) row₀ long answer read p
 
 -- without a plan a row takes as many bytes more as it has parts of 128, the last perhaps shorter, and reads back
-pub packed-length : (row old : List ℕ) (n : ℕ) (new : List ℕ) → RowPacked row old (PackedIs.Length n) new → (n ≡ length row + literals_of (length row)) × ((more row₀ : List ℕ) → length row₀ ≡ length row → (answer : Unpacked) (read : List ℕ) → RowUnpacked (take n new ++ more) row₀ answer read → (answer ≡ UnpackedIs.Used n) × (read ≡ row))
+pub packed-length : (row old : List ℕ) (n : ℕ) (new : List ℕ) → RowPacked row old (Ok n) new → (n ≡ length row + literals_of (length row)) × ((more row₀ : List ℕ) → length row₀ ≡ length row → (answer : Answer ℕ) (read : List ℕ) → RowUnpacked (take n new ++ more) row₀ answer read → (answer ≡ Ok n) × (read ≡ row))
 packed-length row old n new w =
     let plan = plain_plan row in
     let is : length (plan_bytes row plan) ≡ n = done-value (pack_faults row old) (length (plan_bytes row plan)) n (sym w.answers) in

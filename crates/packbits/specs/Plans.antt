@@ -1,9 +1,7 @@
 -- A row that is packed: a plan of packets, the rules that it keeps, and what it writes (rules 17.7 to 17.9). Assumes nothing.
 use Rattle.std.specs.Prelude.{ℕ, zero, suc, ◌+◌, ◌-◌, ◌/◌, ◌≤◌, ◌<◌, ◌≡◌, Bool, not, ◌&&◌, List, [], ◌∷◌, ◌++◌, length, get_or, take, drop, eqb, ltb, leb}
-use Rattle.answer.specs.Outcome.{Outcome, done, refused, Fault, unless, invalid, output_too_small, number, pick, Promise}
+use Rattle.answer.specs.Outcome.{Outcome, done, refused, Fault, unless, invalid, output_too_small, number, pick, Promise, outcome, Answer}
 use Rattle.laws.specs.Turns.{every, sum}
-use Rattle.packbits.specs.declared.Packed.{Packed}
-use Rattle.packbits.specs.declared.Packed.TheVariants as PackedIs
 
 -- a packet that is planned: literal (0) or repeat (1), and of how many bytes of the row
 pub record Planned : Type 0 where
@@ -67,11 +65,6 @@ literals_of n = (n + 127) / 128
 abbrev pub plain_plan : List ℕ → List Planned
 plain_plan row = literals (literals_of (length row)) (length row)
 
--- what the functions promise
-abbrev pub packed_outcome : Packed → Outcome ℕ
-packed_outcome (PackedIs.Length n) = done n
-packed_outcome (PackedIs.Refused k) = refused (number k)
-
 abbrev pub plan_faults : List ℕ → List ℕ → List ℕ → List ℕ → List Fault
 plan_faults row kinds lengths old =
     invalid (not (eqb (length kinds) (length lengths)))
@@ -79,15 +72,15 @@ plan_faults row kinds lengths old =
     ∷ output_too_small (ltb (length old) (length (plan_bytes row (plan_of kinds lengths))))
     ∷ []
 
-abbrev pub PlanWritten : List ℕ → List ℕ → List ℕ → List ℕ → Packed → List ℕ → Type 0
+abbrev pub PlanWritten : List ℕ → List ℕ → List ℕ → List ℕ → Answer ℕ → List ℕ → Type 0
 PlanWritten row kinds lengths old answer new =
     let written = plan_bytes row (plan_of kinds lengths) in
-    Promise (unless (plan_faults row kinds lengths old) (length written)) written old (packed_outcome answer) new
+    Promise (unless (plan_faults row kinds lengths old) (length written)) written old (outcome answer) new
 
 abbrev pub pack_faults : List ℕ → List ℕ → List Fault
 pack_faults row old = output_too_small (ltb (length old) (length (plan_bytes row (plain_plan row)))) ∷ []
 
-abbrev pub RowPacked : List ℕ → List ℕ → Packed → List ℕ → Type 0
+abbrev pub RowPacked : List ℕ → List ℕ → Answer ℕ → List ℕ → Type 0
 RowPacked row old answer new =
     let written = plan_bytes row (plain_plan row) in
-    Promise (unless (pack_faults row old) (length written)) written old (packed_outcome answer) new
+    Promise (unless (pack_faults row old) (length written)) written old (outcome answer) new

@@ -1,10 +1,7 @@
 -- A PackBits row that is read: its packets, what is wrong with each, and what they fill (rules 17.1 to 17.6). Assumes nothing.
 use Rattle.std.specs.Prelude.{ℕ, zero, suc, ◌+◌, ◌-◌, ◌≡◌, not, List, [], ◌∷◌, ◌++◌, length, get_or, take, drop, eqb, ltb}
-use Rattle.answer.specs.declared.Done.{Done}
-use Rattle.answer.specs.Outcome.{Outcome, done, refused, Fault, unless, invalid, truncated, number, pick, Step, Promise}
+use Rattle.answer.specs.Outcome.{Outcome, done, refused, Fault, unless, invalid, truncated, number, pick, Step, Promise, outcome, Answer, Done}
 use Rattle.answer.specs.Table.{table}
-use Rattle.packbits.specs.declared.Unpacked.{Unpacked}
-use Rattle.packbits.specs.declared.Unpacked.TheVariants as UnpackedIs
 
 -- how many bytes of the row a packet fills, and how many of the input it takes, itself among them, by its first byte
 unfoldable pub fills : ℕ → ℕ
@@ -82,17 +79,12 @@ abbrev pub rows_bytes : List ℕ → ℕ → ℕ → List ℕ
 rows_bytes packed zero n = []
 rows_bytes packed (suc rows) n = row_bytes packed n ++ rows_bytes (drop (used packed n) packed) rows n
 
--- what the functions promise
-abbrev pub used_outcome : Unpacked → Outcome ℕ
-used_outcome (UnpackedIs.Used n) = done n
-used_outcome (UnpackedIs.Refused k) = refused (number k)
+abbrev pub RowMeasured : List ℕ → ℕ → Answer ℕ → Type 0
+RowMeasured packed n answer = outcome answer ≡ unless (row_faults packed n) (used packed n)
 
-abbrev pub RowMeasured : List ℕ → ℕ → Unpacked → Type 0
-RowMeasured packed n answer = used_outcome answer ≡ unless (row_faults packed n) (used packed n)
-
-abbrev pub RowUnpacked : List ℕ → List ℕ → Unpacked → List ℕ → Type 0
+abbrev pub RowUnpacked : List ℕ → List ℕ → Answer ℕ → List ℕ → Type 0
 RowUnpacked packed old answer new =
-    Promise (unless (row_faults packed (length old)) (used packed (length old))) (row_bytes packed (length old)) old (used_outcome answer) new
+    Promise (unless (row_faults packed (length old)) (used packed (length old))) (row_bytes packed (length old)) old (outcome answer) new
 
 abbrev pub RowsChecked : List ℕ → ℕ → ℕ → Done → Type 0
 RowsChecked packed rows n answer = Step (rows_faults packed rows n) answer

@@ -1,7 +1,7 @@
 // PackBits rows: unpacked, measured without a buffer, and packed by a plan or as literals.
 #![tactic(auto)]
 
-use answer::{Done, Refusal, fault};
+use answer::{Refusal, fault};
 
 mod moving;
 mod plans;
@@ -17,22 +17,8 @@ use plans::{check_plan, plan_length};
 use reading::{check_packet, does_nothing, fill_row, fills, takes, whole_literal};
 use writing::{put_literals, put_plan};
 
-// The answer of `row_used` and `unpack_row`: the bytes of the input that the row takes.
-#[derive(Clone, Copy)]
-pub enum Unpacked {
-    Used(usize),
-    Refused(Refusal),
-}
-
-// The answer of `write_plan` and `pack_row`: the bytes written.
-#[derive(Clone, Copy)]
-pub enum Packed {
-    Length(usize),
-    Refused(Refusal),
-}
-
 // What a row of so many bytes takes of an input that it begins.
-pub fn row_used(packed: &[u8], row_bytes: usize) -> Unpacked
+pub fn row_used(packed: &[u8], row_bytes: usize) -> Result<usize, Refusal>
     ensures { RowMeasured packed.now row_bytes result }
 {
     let mut at: usize = 0;
@@ -44,16 +30,14 @@ pub fn row_used(packed: &[u8], row_bytes: usize) -> Unpacked
         } else if does_nothing(packed, at) {
             at += 1;
         } else {
-            match check_packet(packed, at, left) {
-                Done::Refused(k) => return Unpacked::Refused(k),
-                Done::Done => {}
-            }
+            check_packet(packed, at, left)?;
+
             let header = packed[at];
             left -= fills(header);
             at += takes(header);
         }
     }
-    Unpacked::Used(at)
+    Ok(at)
 }
 
 // Rows of no bytes take nothing, however many.
@@ -67,54 +51,47 @@ fn turns(rows: usize, row_bytes: usize) -> usize
 }
 
 // Rows that follow each other to the input's end.
-pub fn check_rows(packed: &[u8], rows: usize, row_bytes: usize) -> Done
+pub fn check_rows(packed: &[u8], rows: usize, row_bytes: usize) -> Result<(), Refusal>
     ensures { RowsChecked packed.now rows row_bytes result }
 {
     let all = turns(rows, row_bytes);
     let mut at: usize = 0;
     let mut k: usize = 0;
     while k < all {
-        match row_used(&packed[at..], row_bytes) {
-            Unpacked::Refused(r) => return Done::Refused(r),
-            Unpacked::Used(n) => {
-                at += n;
-            }
-        }
+        let n = row_used(&packed[at..], row_bytes)?;
+        at += n;
         k += 1;
     }
     fault(at != packed.len(), Refusal::Invalid)
 }
 
 // A row of the lent buffer's length. Every packet is looked at before the first byte is written.
-pub fn unpack_row(packed: &[u8], row: &mut [u8]) -> Unpacked
+pub fn unpack_row(packed: &[u8], row: &mut [u8]) -> Result<usize, Refusal>
     ensures { RowUnpacked packed.now row.old result row.new }
 {
-    match row_used(packed, row.len()) {
-        Unpacked::Refused(k) => Unpacked::Refused(k),
-        Unpacked::Used(n) => {
-            fill_row(packed, row);
-            Unpacked::Used(n)
-        }
-    }
+    let n = row_used(packed, row.len())?;
+    fill_row(packed, row);
+    Ok(n)
 }
 
 // A row as its plan has it: packet k is a literal (kind 0) or a repeat (1) of the row's next so many bytes.
-pub fn write_plan(row: &[u8], kinds: &[u8], lengths: &[u8], out: &mut [u8]) -> Packed
+pub fn write_plan(
+    row: &[u8],
+    kinds: &[u8],
+    lengths: &[u8],
+    out: &mut [u8],
+) -> Result<usize, Refusal>
     ensures { PlanWritten row.now kinds.now lengths.now out.old result out.new }
 {
     if kinds.len() != lengths.len() {
-        return Packed::Refused(Refusal::Invalid);
+        return Err(Refusal::Invalid);
     }
     if !check_plan(row, kinds, lengths) {
-        return Packed::Refused(Refusal::Invalid);
+        return Err(Refusal::Invalid);
     }
-    match plan_length(kinds, lengths, out.len()) {
-        Packed::Refused(k) => Packed::Refused(k),
-        Packed::Length(n) => {
-            put_plan(row, kinds, lengths, &mut out[0..n]);
-            Packed::Length(n)
-        }
-    }
+    let n = plan_length(kinds, lengths, out.len())?;
+    put_plan(row, kinds, lengths, &mut out[0..n]);
+    Ok(n)
 }
 
 fn literals_of(n: usize) -> usize
@@ -127,18 +104,18 @@ fn literals_of(n: usize) -> usize
 }
 
 // A row as literals of 128 bytes and a shorter last one.
-pub fn pack_row(row: &[u8], out: &mut [u8]) -> Packed
+pub fn pack_row(row: &[u8], out: &mut [u8]) -> Result<usize, Refusal>
     ensures { RowPacked row.now out.old result out.new }
 {
     let n = row.len();
     let packets = literals_of(n);
     if out.len() < n {
-        return Packed::Refused(Refusal::OutputTooSmall);
+        return Err(Refusal::OutputTooSmall);
     }
     if out.len() - n < packets {
-        return Packed::Refused(Refusal::OutputTooSmall);
+        return Err(Refusal::OutputTooSmall);
     }
     let all = n + packets;
     put_literals(row, &mut out[0..all]);
-    Packed::Length(all)
+    Ok(all)
 }

@@ -1,7 +1,7 @@
 // A plan of packets: whether it keeps the rules, and the bytes that it takes.
 ghost use Rattle.std.specs.Prelude.{◌≡◌, ◌≤◌, length, drop};
-ghost use Rattle.answer.specs.Outcome.{unless};
-ghost use Rattle.packbits.specs.Plans.{plan_of, alike, kept, keeps, packed_outcome};
+ghost use Rattle.answer.specs.Outcome.{unless, outcome};
+ghost use Rattle.packbits.specs.Plans.{plan_of, alike, kept, keeps};
 ghost use Rattle.packbits.specs.Parts.{packet_length, plan_length, room_faults};
 
 use crate::Packed;
@@ -64,19 +64,19 @@ pub(crate) fn packet_length(kind: u8, bytes: u8) -> usize
 }
 
 // The bytes of a plan's packets, if there is room for them.
-pub(crate) fn plan_length(kinds: &[u8], lengths: &[u8], room: usize) -> Packed
+pub(crate) fn plan_length(kinds: &[u8], lengths: &[u8], room: usize) -> Result<usize, Refusal>
     requires { length kinds.now ≡ length lengths.now }
-    ensures { packed_outcome result ≡ unless (room_faults room (plan_of kinds.now lengths.now)) (plan_length (plan_of kinds.now lengths.now)) }
+    ensures { outcome result ≡ unless (room_faults room (plan_of kinds.now lengths.now)) (plan_length (plan_of kinds.now lengths.now)) }
 {
     let mut n: usize = 0;
     let mut k: usize = 0;
     while k < kinds.len() {
         let more = packet_length(kinds[k], lengths[k]);
         if room - n < more {
-            return Packed::Refused(Refusal::OutputTooSmall);
+            return Err(Refusal::OutputTooSmall);
         }
         n += more;
         k += 1;
     }
-    Packed::Length(n)
+    Ok(n)
 }

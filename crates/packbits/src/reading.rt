@@ -5,7 +5,7 @@ ghost use Rattle.packbits.specs.Rows.{fills, takes, packet_faults};
 ghost use Rattle.packbits.specs.Parts.{begun, whole_literal, does_nothing, RowFits, RowFilled};
 
 use crate::moving::{copy_bytes, repeat_byte};
-use answer::{Done, Refusal, fault, first_of};
+use answer::{Refusal, fault, first_of};
 
 // The bytes of the row that a packet fills, by its first byte.
 pub(crate) fn fills(header: u8) -> usize
@@ -36,13 +36,13 @@ pub(crate) fn takes(header: u8) -> usize
 }
 
 // The packet at a place of the input, which finds so much of the row left.
-pub(crate) fn check_packet(packed: &[u8], at: usize, left: usize) -> Done
+pub(crate) fn check_packet(packed: &[u8], at: usize, left: usize) -> Result<(), Refusal>
     requires { at ≤ length packed.now }
     ensures { Step (packet_faults (begun packed.now at left)) result }
 {
     let there = packed.len() - at;
     if there == 0 {
-        return Done::Refused(Refusal::Truncated);
+        return Err(Refusal::Truncated);
     }
     let header = packed[at];
     first_of(

@@ -1,9 +1,7 @@
 -- A state of packets as 80 numbers, in the order that rule 9.9 gives, of which three are flags and the last eight are not used. Assumes nothing.
-use Rattle.std.specs.Prelude.{ℕ, ◌+◌, ◌≡◌, Bool, true, false, not, ◌||◌, List, length, get_or, eqb, ltb}
-use Rattle.answer.specs.Outcome.{pick}
+use Rattle.std.specs.Prelude.{ℕ, ◌+◌, ◌≡◌, Bool, true, false, not, ◌||◌, List, length, get_or, eqb, ltb, Ok, Err}
+use Rattle.answer.specs.Outcome.{pick, Answer, Done}
 use Rattle.answer.specs.Table.{table, stores}
-use Rattle.answer.specs.declared.Done.{Done}
-use Rattle.answer.specs.declared.Done.TheVariants as DoneIs
 use Rattle.answer.specs.declared.Refusal.{Refusal}
 use Rattle.answer.specs.declared.Refusal.TheVariants.{Invalid}
 use Rattle.words.specs.Digits.{digit}
@@ -11,8 +9,6 @@ use Rattle.laws.specs.Turns.{every}
 use Rattle.packets.specs.declared.Plan.{Plan}
 use Rattle.packets.specs.declared.Packets.{Packets}
 use Rattle.packets.specs.declared.Stepped.{Stepped}
-use Rattle.packets.specs.declared.Wrote.{Wrote}
-use Rattle.packets.specs.declared.Wrote.TheVariants as WroteIs
 use Rattle.packets.specs.Promises.{plan, Took, Closed}
 
 -- a flag as a number, and a number as a flag
@@ -56,20 +52,20 @@ pub record Stands (st : Packets) (s : List ℕ) : Type 0 where
   pub state : state_of s ≡ st
 
 -- a piece: what is promised of the state that the numbers stand for, and which numbers are left
-pub record PieceTaken (s piece old : List ℕ) (answer : Wrote) (s' new : List ℕ) : Type 0 where
+pub record PieceTaken (s piece old : List ℕ) (answer : Answer ℕ) (s' new : List ℕ) : Type 0 where
   pub stepped : Stepped
   pub allowed : Took (state_of s) piece old stepped new
   pub answers : answer ≡ stepped.answer
-  pub goes_on : (n : ℕ) → answer ≡ WroteIs.Bytes n → Stands stepped.state s'
-  pub stays : (kind : Refusal) → answer ≡ WroteIs.Refused kind → s' ≡ s
+  pub goes_on : (n : ℕ) → answer ≡ Ok n → Stands stepped.state s'
+  pub stays : (kind : Refusal) → answer ≡ Err kind → s' ≡ s
 
 -- numbers that stand for no state are refused as Invalid, and nothing is written
 pub record OnNumbers (s : List ℕ) (Promised Refused : Type 0) : Type 0 where
   pub kept : strays s ≡ false → Promised
   pub strayed : strays s ≡ true → Refused
 
-abbrev pub PieceOn : List ℕ → List ℕ → List ℕ → Wrote → List ℕ → List ℕ → Type 0
-PieceOn s piece old answer s' new = OnNumbers s (PieceTaken s piece old answer s' new) ((answer ≡ WroteIs.Refused Invalid) × ((s' ≡ s) × (new ≡ old)))
+abbrev pub PieceOn : List ℕ → List ℕ → List ℕ → Answer ℕ → List ℕ → List ℕ → Type 0
+PieceOn s piece old answer s' new = OnNumbers s (PieceTaken s piece old answer s' new) ((answer ≡ Err Invalid) × ((s' ≡ s) × (new ≡ old)))
 
 abbrev pub CloseOn : List ℕ → Done → Type 0
-CloseOn s answer = OnNumbers s (Closed (state_of s) answer) (answer ≡ DoneIs.Refused Invalid)
+CloseOn s answer = OnNumbers s (Closed (state_of s) answer) (answer ≡ Err Invalid)

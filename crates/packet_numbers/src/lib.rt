@@ -7,8 +7,8 @@ ghost use Rattle.words.specs.Digits.{value};
 ghost use Rattle.words.specs.Word.{Bytes};
 ghost use Rattle.packet_numbers.specs.Numbers.{flag_of, tail_of, sums_in, plan_in, state_of, all_unused, strays as straysOf, with_sums, Stands, PieceOn, CloseOn};
 
-use answer::{Done, Refusal};
-use packets::{Packets, Plan, Wrote};
+use answer::Refusal;
+use packets::{Packets, Plan};
 
 // A flag as a number.
 fn flag(on: bool) -> u64
@@ -140,11 +140,11 @@ pub fn numbers_of(state: Packets) -> [u64; 80]
 }
 
 // The next bytes of the strip: the numbers are altered where they stand, and the samples that the bytes complete are written.
-pub fn piece(s: &mut [u64], bytes: &[u8], out: &mut [u8]) -> Wrote
+pub fn piece(s: &mut [u64], bytes: &[u8], out: &mut [u8]) -> Result<usize, Refusal>
     ensures { PieceOn s.old bytes.now out.old result s.new out.new }
 {
     if strays(s) {
-        return Wrote::Refused(Refusal::Invalid);
+        return Err(Refusal::Invalid);
     }
     let plan = plan_of(s);
     let received = s[6] as usize;
@@ -152,22 +152,18 @@ pub fn piece(s: &mut [u64], bytes: &[u8], out: &mut [u8]) -> Wrote
     let first: usize = 8;
     let end: usize = 72;
     let answer = packets::lent_piece(plan, received, bytes, &mut tail, &mut s[first..end], out);
-    match answer {
-        Wrote::Refused(kind) => Wrote::Refused(kind),
-        Wrote::Bytes(n) => {
-            s[6] = (received + bytes.len()) as u64;
-            s[7] = word_of(&tail);
-            Wrote::Bytes(n)
-        }
-    }
+    let n = answer?;
+    s[6] = (received + bytes.len()) as u64;
+    s[7] = word_of(&tail);
+    Ok(n)
 }
 
 // Whether whole rows have come.
-pub fn close(s: &[u64]) -> Done
+pub fn close(s: &[u64]) -> Result<(), Refusal>
     ensures { CloseOn s.now result }
 {
     if strays(s) {
-        return Done::Refused(Refusal::Invalid);
+        return Err(Refusal::Invalid);
     }
     let state = state_of(s);
     state.close()

@@ -1,30 +1,20 @@
 -- Each promise of this crate allows one outcome. Assumes nothing.
+use Rattle.std.specs.Prelude.{Ok, Err}
 use mathlib.Core.Path.{◌≡◌, refl, sym, ap, ◌∙◌}
 use mathlib.Core.List.{List}
 use Prim.Native.Nat.{ℕ}
-use Rattle.answer.specs.Outcome.{Outcome, done, refused}
-use Rattle.answer.specs.declared.Done.{Done}
-use Rattle.answer.proofs.Promised.{determined, done_once, once, kind, kind-number}
+use Rattle.answer.specs.Outcome.{Outcome, done, refused, outcome, Answer, Done}
+use Rattle.answer.proofs.Promised.{determined, answer_once, once, kind, kind-number}
 use Rattle.packets.specs.declared.Packets.{Packets}
 use Rattle.packets.specs.declared.Started.{Started}
 use Rattle.packets.specs.declared.Stepped.{Stepped}
-use Rattle.packets.specs.declared.Wrote.{Wrote}
-use Rattle.packets.specs.declared.Wrote.TheVariants as WroteIs
 use Rattle.packets.specs.declared.Plan.{Plan}
-use Rattle.packets.specs.Promises.{wrote_outcome, Begun, Took, TookLent, Closed}
-
-abbrev back : Outcome ℕ → Wrote
-back (done n) = WroteIs.Bytes n
-back (refused n) = WroteIs.Refused (kind n)
-
-back-wrote : (a : Wrote) → back (wrote_outcome a) ≡ a
-back-wrote (WroteIs.Bytes n) = refl
-back-wrote (WroteIs.Refused k) = ap WroteIs.Refused (kind-number k)
+use Rattle.packets.specs.Promises.{Begun, Took, TookLent, Closed}
 
 abbrev started : Packets → Done → Started
 started s d = record { state = s; answer = d }
 
-abbrev stepped : Packets → Wrote → Stepped
+abbrev stepped : Packets → Answer ℕ → Stepped
 stepped s d = record { state = s; answer = d }
 
 started_same : (a b : Started) → a.state ≡ b.state → a.answer ≡ b.answer → a ≡ b
@@ -34,17 +24,17 @@ stepped_same : (a b : Stepped) → a.state ≡ b.state → a.answer ≡ b.answer
 stepped_same a b s e = ap (λ (x : Packets). stepped x a.answer) s ∙ ap (stepped b.state) e
 
 pub start_determined : (p : Plan) (a b : Started) → Begun p a → Begun p b → a ≡ b
-start_determined p a b x y = started_same a b (x.state ∙ sym y.state) (done_once a.answer b.answer (x.answers ∙ sym y.answers))
+start_determined p a b x y = started_same a b (x.state ∙ sym y.state) (answer_once a.answer b.answer (x.answers ∙ sym y.answers))
 
 pub piece_determined : (st : Packets) (piece old : List ℕ) (a b : Stepped) (x y : List ℕ) → Took st piece old a x → Took st piece old b y → (a ≡ b) × (x ≡ y)
 piece_determined st piece old a b x y s t =
-    let one = determined (wrote_outcome a.answer) (wrote_outcome b.answer) x y s.writes t.writes in
-    (stepped_same a b (s.state ∙ sym t.state) (once wrote_outcome back back-wrote a.answer b.answer one.0), one.1)
+    let one = determined (outcome a.answer) (outcome b.answer) x y s.writes t.writes in
+    (stepped_same a b (s.state ∙ sym t.state) (answer_once a.answer b.answer one.0), one.1)
 
-pub lent_piece_determined : (st : Packets) (piece old : List ℕ) (a b : Wrote) (t u v w x y : List ℕ) → TookLent st piece old a t v x → TookLent st piece old b u w y → (a ≡ b) × ((t ≡ u) × ((v ≡ w) × (x ≡ y)))
+pub lent_piece_determined : (st : Packets) (piece old : List ℕ) (a b : Answer ℕ) (t u v w x y : List ℕ) → TookLent st piece old a t v x → TookLent st piece old b u w y → (a ≡ b) × ((t ≡ u) × ((v ≡ w) × (x ≡ y)))
 lent_piece_determined st piece old a b t u v w x y p q =
-    let one = determined (wrote_outcome a) (wrote_outcome b) x y p.writes q.writes in
-    (once wrote_outcome back back-wrote a b one.0, (p.tails ∙ sym q.tails, (p.sums_are ∙ sym q.sums_are, one.1)))
+    let one = determined (outcome a) (outcome b) x y p.writes q.writes in
+    (answer_once a b one.0, (p.tails ∙ sym q.tails, (p.sums_are ∙ sym q.sums_are, one.1)))
 
 pub close_determined : (st : Packets) (a b : Done) → Closed st a → Closed st b → a ≡ b
-close_determined st a b x y = done_once a b (x ∙ sym y)
+close_determined st a b x y = answer_once a b (x ∙ sym y)

@@ -8,9 +8,8 @@ use native.Mathlib.Nat.{div-add-mod', add-mul, add-zero, mod-add-mod, mod-lt, mo
 use native.Mathlib.Omega.{arith}
 use borrow.Author.Tests.{eq-eqb, lt-ltb, le-ltb}
 use lib.ListN.{length, set}
-use Rattle.answer.specs.Outcome.{Outcome, instead, Sound, none, next}
+use Rattle.answer.specs.Outcome.{Outcome, instead, Sound, none, next, Done}
 use Rattle.answer.specs.Table.{table, filled}
-use Rattle.answer.specs.declared.Done.{Done}
 use Rattle.answer.proofs.Promised.{finished, sound-done}
 use Rattle.laws.proofs.Groups.{item_of, rest_of_rest}
 use Rattle.samples.specs.Sample.{word_of}

@@ -1,4 +1,5 @@
 -- `pieces_convert` and `cut_anywhere`. Assumes nothing.
+use Rattle.std.specs.Prelude.{Ok}
 use mathlib.Core.Path.{◌≡◌, refl, sym, ap, ◌∙◌, subst}
 use mathlib.Core.Bool.{true, not}
 use mathlib.Core.List.{List, ◌++◌}
@@ -8,9 +9,8 @@ use native.Mathlib.Omega.{arith}
 use borrow.Author.Tests.{le-ltb, eqb-true, eq-eqb, not-false}
 use lib.Dec.{eqb}
 use lib.ListN.{length, take, drop, length-append, get_or-append}
-use Rattle.answer.specs.Outcome.{Outcome, done, unless, Sound, next, none, Promise}
+use Rattle.answer.specs.Outcome.{Outcome, done, unless, Sound, next, none, Promise, outcome}
 use Rattle.answer.specs.Table.{table}
-use Rattle.answer.specs.declared.Done.TheVariants as DoneIs
 use Rattle.answer.proofs.Filling.{length-table, table_same, table_join}
 use Rattle.answer.proofs.Promised.{writes, passed, sound-here, sound_rest, sound_more, sound-done, finishes}
 use Rattle.words.specs.Digits.{digit}
@@ -22,7 +22,7 @@ use Rattle.packets.specs.declared.Packets.{Packets}
 use Rattle.packets.specs.declared.Stepped.{Stepped}
 use Rattle.packets.specs.declared.Plan.{Plan}
 use Rattle.packets.specs.State.{geometry, sample_of, state_at, consistent, most}
-use Rattle.packets.specs.Promises.{wrote_outcome, Took, Closed, close_faults, piece_faults, completes, continued_at, continued, joined, Reached, Streamed, opened, fed}
+use Rattle.packets.specs.Promises.{Took, Closed, close_faults, piece_faults, completes, continued_at, continued, joined, Reached, Streamed, opened, fed}
 use Rattle.packets.proofs.Bytewise.{Sane}
 use Rattle.packets.proofs.Agree.{sample_agrees}
 use Rattle.packets.proofs.Behind.{Passed, Shaped, sane_sound}
@@ -90,7 +90,7 @@ module _ (p : Plan) (sound : Sound (strip_faults 0 (geometry p))) where
       written_on st h piece ∙ ap (stored_upto p (s ++ piece)) (sym (length-append s piece))
 
 -- what a call that did not refuse wrote
-pub took_written : {st : Packets} {piece old new : List ℕ} {r : Stepped} {n : ℕ} → Took st piece old r new → wrote_outcome r.answer ≡ done n → take n new ≡ written_by st piece
+pub took_written : {st : Packets} {piece old new : List ℕ} {r : Stepped} {n : ℕ} → Took st piece old r new → outcome r.answer ≡ done n → take n new ≡ written_by st piece
 took_written {st} {piece} {old} {new} {r} {n} t e =
     let m = completes st (length piece) in
     let all : unless (piece_faults st piece old) m ≡ done m = sound-done m (took_state t e).0 in
@@ -119,7 +119,7 @@ module _ (st : Packets) (ok : Passed st) (shaped : Shaped st) (a b : List ℕ) (
       rw (front, back) (sym (table_join n m f ∙ ap (λ (x : ℕ). table x f) (cut-long st ok shaped a b fits)))
 
 -- of three calls that did not refuse
-cut-done : {st : Packets} {a b old new old₁ new₁ old₂ new₂ : List ℕ} {r r₁ r₂ : Stepped} {n n₁ n₂ : ℕ} → Reached st → Took st (a ++ b) old r new → wrote_outcome r.answer ≡ done n → Took st a old₁ r₁ new₁ → wrote_outcome r₁.answer ≡ done n₁ → Took r₁.state b old₂ r₂ new₂ → wrote_outcome r₂.answer ≡ done n₂ → (r.state ≡ r₂.state) × (take n new ≡ take n₁ new₁ ++ take n₂ new₂)
+cut-done : {st : Packets} {a b old new old₁ new₁ old₂ new₂ : List ℕ} {r r₁ r₂ : Stepped} {n n₁ n₂ : ℕ} → Reached st → Took st (a ++ b) old r new → outcome r.answer ≡ done n → Took st a old₁ r₁ new₁ → outcome r₁.answer ≡ done n₁ → Took r₁.state b old₂ r₂ new₂ → outcome r₂.answer ≡ done n₂ → (r.state ≡ r₂.state) × (take n new ≡ take n₁ new₁ ++ take n₂ new₂)
 cut-done {st} {a} {b} {old₁ = old₁} reached t e t₁ e₁ t₂ e₂ =
     let h = history reached in
     let ok = B.passed st (history_passes st h) in
@@ -131,16 +131,16 @@ cut-done {st} {a} {b} {old₁ = old₁} reached t e t₁ e₁ t₂ e₂ =
     )
 
 -- a call on a state that passes the check, within the limit and with room, does not refuse
-pub taken : {st : Packets} {piece old new : List ℕ} {r : Stepped} → Took st piece old r new → consistent st ≡ true → st.received + length piece ≤ most → completes st (length piece) ≤ length old → wrote_outcome r.answer ≡ done (completes st (length piece))
+pub taken : {st : Packets} {piece old new : List ℕ} {r : Stepped} → Took st piece old r new → consistent st ≡ true → st.received + length piece ≤ most → completes st (length piece) ≤ length old → outcome r.answer ≡ done (completes st (length piece))
 taken {st} {piece} {old} t e fits room =
     t.writes.answers
     ∙ sound-done (completes st (length piece)) (next (ap not e) (next (le-ltb most (st.received + length piece) fits) (next (le-ltb (length old) (completes st (length piece)) room) none)))
 
 -- a piece and, in its place, its two parts: none of the calls refuses, and they come to the same state and the same bytes
 pub record SameCut (st : Packets) (a b new new₁ new₂ : List ℕ) (r r₁ r₂ : Stepped) : Type 0 where
-  pub whole_taken : wrote_outcome r.answer ≡ done (completes st (length (a ++ b)))
-  pub first_taken : wrote_outcome r₁.answer ≡ done (completes st (length a))
-  pub second_taken : wrote_outcome r₂.answer ≡ done (completes r₁.state (length b))
+  pub whole_taken : outcome r.answer ≡ done (completes st (length (a ++ b)))
+  pub first_taken : outcome r₁.answer ≡ done (completes st (length a))
+  pub second_taken : outcome r₂.answer ≡ done (completes r₁.state (length b))
   pub same-state : r.state ≡ r₂.state
   pub same_bytes : take (completes st (length (a ++ b))) new ≡ take (completes st (length a)) new₁ ++ take (completes r₁.state (length b)) new₂
 
@@ -194,12 +194,12 @@ pub whole-sound : (n : ℕ) (g : Strip) → n % g.row ≡ 0 → Sound (strip_fau
 whole-sound n g e (next a (next b (next c (next d (next f rest))))) = next a (next b (next c (next d (next f (next (ap not (eq-eqb (n % g.row) 0 e)) none)))))
 
 -- a strip that closes well: what was written, put end to end, is what `convert` writes of the pieces put end to end
-pub pieces_convert : {p : Plan} {pieces : List (List ℕ)} {st : Packets} {out : List ℕ} → Streamed p pieces st out → Closed st DoneIs.Done → (old : List ℕ) → length (joined pieces) ≤ length old → Converted (joined pieces) (geometry p) p.predict p.le p.out_le old DoneIs.Done (out ++ drop (length out) old)
+pub pieces_convert : {p : Plan} {pieces : List (List ℕ)} {st : Packets} {out : List ℕ} → Streamed p pieces st out → Closed st (Ok tt) → (old : List ℕ) → length (joined pieces) ≤ length old → Converted (joined pieces) (geometry p) p.predict p.le p.out_le old (Ok tt) (out ++ drop (length out) old)
 pieces_convert {p} {pieces} {st} {out} streamed closed old room =
     let far = pieces_so_far streamed in
     let s = joined pieces in
     let g = geometry p in
-    let rest = sound-here (sound_rest (passed (close_faults st) DoneIs.Done closed refl)) in
+    let rest = sound-here (sound_rest (passed (close_faults st) (Ok tt) closed refl)) in
     let rows : length s % g.row ≡ 0 = rows_whole p s st far.state (eqb-true (st.received % st.plan.row_bytes) 0 (not-false (eqb (st.received % st.plan.row_bytes) 0) rest)) in
     let sound = whole-sound (length s) g rows far.sound in
     let all : length s / g.width * g.width ≡ length s = omega (arith, div-add-mod' (length s) g.width, bytes-words (length s) g (good_checked (length s) g sound)) in

@@ -1,4 +1,5 @@
 -- `reached_exactly`: a state passes the check if and only if a start and pieces lead to it. Assumes nothing.
+use Rattle.std.specs.Prelude.{Ok}
 use Prim.{Unit}
 use mathlib.Core.Path.{◌≡◌, refl, sym, ap, ◌∙◌, subst}
 use mathlib.Core.Bool.{Bool, true, false, not, ◌||◌}
@@ -10,9 +11,8 @@ use native.Mathlib.Omega.{arith}
 use borrow.Author.Tests.{lt-ltb, le-ltb, eq-eqb}
 use lib.Dec.{ltb, eqb}
 use lib.ListN.{length, get_or, length-append}
-use Rattle.answer.specs.Outcome.{instead, pick, Sound, next, none, done, done_outcome}
+use Rattle.answer.specs.Outcome.{instead, pick, Sound, next, none, done, outcome}
 use Rattle.answer.specs.Table.{table, filled}
-use Rattle.answer.specs.declared.Done.TheVariants as DoneIs
 use Rattle.answer.proofs.Filling.{length-table, table_at}
 use Rattle.answer.proofs.Promised.{done-sound, sound-here, sound_rest}
 use Rattle.words.specs.Word.{Bytes, modulus, ordered}
@@ -24,10 +24,9 @@ use Rattle.samples.proofs.Undo.{sample_below}
 use Rattle.packets.specs.declared.Packets.{Packets}
 use Rattle.packets.specs.declared.Started.{Started}
 use Rattle.packets.specs.declared.Stepped.{Stepped}
-use Rattle.packets.specs.declared.Wrote.TheVariants as WroteIs
 use Rattle.packets.specs.declared.Plan.{Plan}
 use Rattle.packets.specs.State.{geometry, per_row, sample_of, latest, tail_at, sum_at, tail_of, sums_of, state_at, most, tail_right, sum_right, tails_right, sums_right, consistent, behind}
-use Rattle.packets.specs.Promises.{wrote_outcome, Begun, Took, Reached, begun, went, piece_faults, completes, continued_at, continued, nowhere}
+use Rattle.packets.specs.Promises.{Begun, Took, Reached, begun, went, piece_faults, completes, continued_at, continued, nowhere}
 use Rattle.laws.proofs.Turns.{every-all}
 use Rattle.packets.proofs.Latest.{latest-none}
 use Rattle.packets.proofs.Bytewise.{Sane}
@@ -39,7 +38,6 @@ use lib.ListN.{get_or-append}
 use lib.Seq.{get_or-append-add}
 use borrow.Author.Tests.{ltb-false}
 use Rattle.answer.specs.Outcome.{Outcome}
-use Rattle.packets.proofs.Behind.{}
 use Rattle.packets.proofs.Future.{continued_any}
 
 latest_below : (channels : ℕ) (v : ℕ → ℕ) (m j top : ℕ) → 0 < top → ((i : ℕ) → v i < top) → latest channels v m j < top
@@ -142,12 +140,12 @@ pub history_passes : (st : Packets) → History st → consistent st ≡ true
 history_passes st h = ap consistent (sym h.leads) ∙ state-passes st.plan h.sound h.came st.received h.short
 
 -- what a call that did not refuse shows
-pub begun-state : {p : Plan} {r : Started} → Begun p r → done_outcome r.answer ≡ done tt → Sound (strip_faults 0 (geometry p)) × (r.state ≡ state_at p [] 0)
+pub begun-state : {p : Plan} {r : Started} → Begun p r → outcome r.answer ≡ done tt → Sound (strip_faults 0 (geometry p)) × (r.state ≡ state_at p [] 0)
 begun-state {p} {r} b e =
     let o = sym b.answers ∙ e in
     (done-sound (strip_faults 0 (geometry p)) tt tt o, b.state ∙ ap (λ (x : Outcome (Unit {0})). instead x (state_at p [] 0) nowhere) o)
 
-pub took_state : {st : Packets} {piece old new : List ℕ} {r : Stepped} {n : ℕ} → Took st piece old r new → wrote_outcome r.answer ≡ done n → Sound (piece_faults st piece old) × (r.state ≡ continued st piece)
+pub took_state : {st : Packets} {piece old new : List ℕ} {r : Stepped} {n : ℕ} → Took st piece old r new → outcome r.answer ≡ done n → Sound (piece_faults st piece old) × (r.state ≡ continued st piece)
 took_state {st} {piece} {old} {new} {r} {n} t e =
     let o = sym t.writes.answers ∙ e in
     (done-sound (piece_faults st piece old) (completes st (length piece)) n o, t.state ∙ ap (λ (x : Outcome ℕ). instead x (continued st piece) st) o)
@@ -193,7 +191,7 @@ module _ (st : Packets) (shaped : Shaped st) (bytes : Bytes st.tail) (e : consis
   room : List ℕ
   room = table (completes first (length (behind st))) (λ k. 0)
 
-  one_piece : Took first (behind st) room (record { state = continued first (behind st); answer = WroteIs.Bytes (completes first (length (behind st))) }) (filled (completes first (length (behind st))) (continued_at first (behind st)) room)
+  one_piece : Took first (behind st) room (record { state = continued first (behind st); answer = Ok (completes first (length (behind st))) }) (filled (completes first (length (behind st))) (continued_at first (behind st)) room)
   unfolding state_at room
   one_piece =
       let fits : 0 + length (behind st) ≤ most = omega (arith, behind-length st ok shaped, ok.short) in
@@ -213,7 +211,7 @@ module _ (st : Packets) (shaped : Shaped st) (bytes : Bytes st.tail) (e : consis
   passes_reached =
       subst Reached leads_there
       (went {n = completes first (length (behind st))}
-      (begun {p = st.plan} {r = record { state = first; answer = DoneIs.Done }} (begun-done ok.sound refl refl) refl)
+      (begun {p = st.plan} {r = record { state = first; answer = (Ok tt) }} (begun-done ok.sound refl refl) refl)
       bytes-behind one_piece refl)
 
 -- a state that has the numbers of its type passes the check if and only if a start and pieces lead to it

@@ -6,8 +6,8 @@ use native.Mathlib.Nat.{div-add-mod', mod-lt, mod-le, mod-add-mod, mod_self, mul
 use native.Mathlib.Decide.{dec_lt}
 use native.Mathlib.Omega.{arith}
 use lib.ListN.{length}
-use Rattle.answer.specs.declared.Done.{Done}
 use Rattle.answer.proofs.Filling.{part, length_part, halfway}
+use Rattle.answer.specs.Outcome.{Done}
 use Rattle.laws.proofs.Groups.{whole-last, rest_of_rest}
 use Rattle.samples.specs.Promises.{Converted}
 use Rattle.samples.proofs.Strips.{per_row_lem, row_words}

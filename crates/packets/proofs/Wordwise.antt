@@ -8,9 +8,8 @@ use native.Mathlib.Omega.{arith}
 use borrow.Author.Tests.{not-false, eq-eqb, le-ltb}
 use lib.ListN.{length, get_or, get_or-append}
 use lib.Seq.{get_or-append-add}
-use Rattle.answer.specs.Outcome.{Sound, none, next}
+use Rattle.answer.specs.Outcome.{Sound, none, next, Done}
 use Rattle.answer.specs.Table.{filled}
-use Rattle.answer.specs.declared.Done.{Done}
 use Rattle.answer.proofs.Filling.{filled-same, table_same}
 use Rattle.answer.proofs.Promised.{sound-here, sound_more, finished}
 use Rattle.words.specs.Word.{Bytes}

@@ -1,9 +1,8 @@
 -- What starting, a piece and closing promise (rules 16.1 to 16.5). Assumes nothing.
 use Prim.{Unit}
 use Rattle.std.specs.Prelude.{ℕ, ◌+◌, ◌-◌, ◌*◌, ◌/◌, ◌%◌, ◌≡◌, Bool, false, not, List, [], ◌∷◌, ◌++◌, length, take, eqb, ltb}
-use Rattle.answer.specs.Outcome.{Outcome, done, refused, Fault, unless, invalid, output_too_small, limit, number, instead, Promise, done_outcome}
+use Rattle.answer.specs.Outcome.{Outcome, done, refused, Fault, unless, invalid, output_too_small, limit, number, instead, Promise, outcome, Answer, Done}
 use Rattle.answer.specs.Table.{table}
-use Rattle.answer.specs.declared.Done.{Done}
 use Rattle.words.specs.Word.{Bytes}
 use Rattle.samples.specs.Sample.{stored_at}
 use Rattle.samples.specs.Promises.{strip_faults}
@@ -11,13 +10,7 @@ use Rattle.packets.specs.declared.Plan.{Plan}
 use Rattle.packets.specs.declared.Packets.{Packets}
 use Rattle.packets.specs.declared.Started.{Started}
 use Rattle.packets.specs.declared.Stepped.{Stepped}
-use Rattle.packets.specs.declared.Wrote.{Wrote}
-use Rattle.packets.specs.declared.Wrote.TheVariants as WroteIs
 use Rattle.packets.specs.State.{geometry, sample_of, state_at, most, consistent, behind}
-
-abbrev pub wrote_outcome : Wrote → Outcome ℕ
-wrote_outcome (WroteIs.Bytes n) = done n
-wrote_outcome (WroteIs.Refused k) = refused (number k)
 
 unfoldable pub no_tail : List ℕ
 no_tail = table 8 (λ j. 0)
@@ -37,7 +30,7 @@ abbrev pub starting : Plan → Outcome (Unit {0})
 starting p = unless (strip_faults 0 (geometry p)) tt
 
 pub record Begun (p : Plan) (r : Started) : Type 0 where
-  pub answers : done_outcome r.answer ≡ starting p
+  pub answers : outcome r.answer ≡ starting p
   pub state : r.state ≡ instead (starting p) (state_at p [] 0) nowhere
 
 -- the bytes of the samples that n more bytes complete
@@ -58,7 +51,7 @@ abbrev pub continued : Packets → List ℕ → Packets
 continued st piece = state_at st.plan (behind st ++ piece) (st.received + length piece)
 
 pub record Took (st : Packets) (piece old : List ℕ) (r : Stepped) (new : List ℕ) : Type 0 where
-  pub writes : Promise (unless (piece_faults st piece old) (completes st (length piece))) (table (completes st (length piece)) (continued_at st piece)) old (wrote_outcome r.answer) new
+  pub writes : Promise (unless (piece_faults st piece old) (completes st (length piece))) (table (completes st (length piece)) (continued_at st piece)) old (outcome r.answer) new
   pub state : r.state ≡ instead (unless (piece_faults st piece old) (completes st (length piece))) (continued st piece) st
 
 -- a state as its parts
@@ -72,8 +65,8 @@ lent_faults st piece old = invalid (not (eqb (length st.tail) 8)) ∷ invalid (n
 abbrev pub lent_taking : Packets → List ℕ → List ℕ → Outcome ℕ
 lent_taking st piece old = unless (lent_faults st piece old) (completes st (length piece))
 
-pub record TookLent (st : Packets) (piece old : List ℕ) (answer : Wrote) (tail sums new : List ℕ) : Type 0 where
-  pub writes : Promise (lent_taking st piece old) (table (completes st (length piece)) (continued_at st piece)) old (wrote_outcome answer) new
+pub record TookLent (st : Packets) (piece old : List ℕ) (answer : Answer ℕ) (tail sums new : List ℕ) : Type 0 where
+  pub writes : Promise (lent_taking st piece old) (table (completes st (length piece)) (continued_at st piece)) old (outcome answer) new
   pub tails : tail ≡ instead (lent_taking st piece old) (continued st piece).tail st.tail
   pub sums_are : sums ≡ instead (lent_taking st piece old) (continued st piece).sums st.sums
 
@@ -82,12 +75,12 @@ abbrev pub close_faults : Packets → List Fault
 close_faults st = invalid (not (consistent st)) ∷ invalid (not (eqb (st.received % st.plan.row_bytes) 0)) ∷ []
 
 abbrev pub Closed : Packets → Done → Type 0
-Closed st answer = done_outcome answer ≡ unless (close_faults st) tt
+Closed st answer = outcome answer ≡ unless (close_faults st) tt
 
 -- a state to which a start and pieces lead: calls that kept their promises and did not refuse
 pub data Reached : Packets → Type 0 where
-  begun : {p : Plan} {r : Started} → Begun p r → done_outcome r.answer ≡ done tt → Reached r.state
-  went : {st : Packets} {piece old new : List ℕ} {r : Stepped} {n : ℕ} → Reached st → Bytes piece → Took st piece old r new → wrote_outcome r.answer ≡ done n → Reached r.state
+  begun : {p : Plan} {r : Started} → Begun p r → outcome r.answer ≡ done tt → Reached r.state
+  went : {st : Packets} {piece old new : List ℕ} {r : Stepped} {n : ℕ} → Reached st → Bytes piece → Took st piece old r new → outcome r.answer ≡ done n → Reached r.state
 
 -- pieces, the latest first, put end to end
 abbrev pub joined : List (List ℕ) → List ℕ
@@ -96,5 +89,5 @@ joined (piece ∷ earlier) = joined earlier ++ piece
 
 -- what a start and pieces that did not refuse leave: the pieces, the state, and what was written, put end to end
 pub data Streamed (p : Plan) : List (List ℕ) → Packets → List ℕ → Type 0 where
-  opened : {r : Started} → Begun p r → done_outcome r.answer ≡ done tt → Streamed p [] r.state []
-  fed : {pieces : List (List ℕ)} {st : Packets} {out piece old new : List ℕ} {r : Stepped} {n : ℕ} → Streamed p pieces st out → Bytes piece → Took st piece old r new → wrote_outcome r.answer ≡ done n → Streamed p (piece ∷ pieces) r.state (out ++ take n new)
+  opened : {r : Started} → Begun p r → outcome r.answer ≡ done tt → Streamed p [] r.state []
+  fed : {pieces : List (List ℕ)} {st : Packets} {out piece old new : List ℕ} {r : Stepped} {n : ℕ} → Streamed p pieces st out → Bytes piece → Took st piece old r new → outcome r.answer ≡ done n → Streamed p (piece ∷ pieces) r.state (out ++ take n new)

@@ -8,7 +8,6 @@ ghost use Rattle.packets.specs.State.{sum_right, tails_right, sums_right, consis
 ghost use Rattle.packets.specs.Promises.{plan, state};
 
 use crate::feed;
-use answer::Done;
 
 fn byte_right(x: u8, is_live: bool) -> bool
     ensures { result ≡ (is_live || eqb x 0) }
@@ -113,8 +112,8 @@ pub(crate) fn passes(
     ensures { result ≡ consistent (state (plan row_bytes channels width true predict true) received tail.now sums.now) }
 {
     match samples::check_strip(0, row_bytes, channels, width) {
-        Done::Refused(_) => false,
-        Done::Done => {
+        Err(_) => false,
+        Ok(()) => {
             if 1073741824 < received {
                 return false;
             }

@@ -8,7 +8,7 @@ mod feed;
 ghost use Rattle.std.specs.Prelude.{◌≡◌};
 ghost use Rattle.packets.specs.Promises.{nowhere, plan as plan_of, state, Begun, Took, TookLent, Closed};
 
-use answer::{Done, Refusal};
+use answer::Refusal;
 
 // What a start fixes.
 #[derive(Clone, Copy)]
@@ -33,19 +33,13 @@ pub struct Packets {
 #[derive(Clone, Copy)]
 pub struct Started {
     pub state: Packets,
-    pub answer: Done,
-}
-
-#[derive(Clone, Copy)]
-pub enum Wrote {
-    Bytes(usize),
-    Refused(Refusal),
+    pub answer: Result<(), Refusal>,
 }
 
 #[derive(Clone, Copy)]
 pub struct Stepped {
     pub state: Packets,
-    pub answer: Wrote,
+    pub answer: Result<usize, Refusal>,
 }
 
 fn nothing() -> Packets
@@ -78,14 +72,14 @@ pub fn lent_piece(
     tail: &mut [u8],
     sums: &mut [u64],
     out: &mut [u8],
-) -> Wrote
+) -> Result<usize, Refusal>
     ensures { TookLent (state plan received tail.old sums.old) bytes.now out.old result tail.new sums.new out.new }
 {
     if tail.len() != 8 {
-        return Wrote::Refused(Refusal::Invalid);
+        return Err(Refusal::Invalid);
     }
     if sums.len() != 64 {
-        return Wrote::Refused(Refusal::Invalid);
+        return Err(Refusal::Invalid);
     }
     if !check::passes(
         plan.row_bytes,
@@ -96,18 +90,18 @@ pub fn lent_piece(
         tail,
         sums,
     ) {
-        return Wrote::Refused(Refusal::Invalid);
+        return Err(Refusal::Invalid);
     }
     if 1073741824 - received < bytes.len() {
-        return Wrote::Refused(Refusal::Limit);
+        return Err(Refusal::Limit);
     }
     let begun = feed::past(received, plan.width) + bytes.len();
     let completes = begun - feed::past(begun, plan.width);
     if out.len() < completes {
-        return Wrote::Refused(Refusal::OutputTooSmall);
+        return Err(Refusal::OutputTooSmall);
     }
     feed::feed(plan, received, bytes, tail, sums, out);
-    Wrote::Bytes(completes)
+    Ok(completes)
 }
 
 impl Packets {
@@ -124,11 +118,11 @@ impl Packets {
     {
         let state = nothing();
         match samples::check_strip(0, row_bytes, channels, width) {
-            Done::Refused(k) => Started {
+            Err(k) => Started {
                 state: state,
-                answer: Done::Refused(k),
+                answer: Err(k),
             },
-            Done::Done => {
+            Ok(()) => {
                 let plan = Plan {
                     row_bytes: row_bytes,
                     channels: channels,
@@ -147,7 +141,7 @@ impl Packets {
                 };
                 Started {
                     state: begun,
-                    answer: Done::Done,
+                    answer: Ok(()),
                 }
             }
         }
@@ -162,11 +156,11 @@ impl Packets {
         let mut sums = self.sums;
         let answer = lent_piece(plan, self.received, bytes, &mut tail, &mut sums, out);
         match answer {
-            Wrote::Refused(kind) => Stepped {
+            Err(kind) => Stepped {
                 state: self,
-                answer: Wrote::Refused(kind),
+                answer: Err(kind),
             },
-            Wrote::Bytes(n) => {
+            Ok(n) => {
                 let state = Packets {
                     plan: plan,
                     received: self.received + bytes.len(),
@@ -175,14 +169,14 @@ impl Packets {
                 };
                 Stepped {
                     state: state,
-                    answer: Wrote::Bytes(n),
+                    answer: Ok(n),
                 }
             }
         }
     }
 
     // Whether whole rows have come.
-    pub fn close(self) -> Done
+    pub fn close(self) -> Result<(), Refusal>
         ensures { Closed self result }
     {
         let plan = self.plan;
@@ -197,11 +191,11 @@ impl Packets {
             &tail,
             &sums,
         ) {
-            return Done::Refused(Refusal::Invalid);
+            return Err(Refusal::Invalid);
         }
         if self.received % plan.row_bytes != 0 {
-            return Done::Refused(Refusal::Invalid);
+            return Err(Refusal::Invalid);
         }
-        Done::Done
+        Ok(())
     }
 }

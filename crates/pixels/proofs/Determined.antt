@@ -3,8 +3,8 @@ use mathlib.Core.Path.{◌≡◌, sym, ◌∙◌}
 use mathlib.Core.Bool.{Bool}
 use mathlib.Core.List.{List}
 use Prim.Native.Nat.{ℕ}
-use Rattle.answer.specs.declared.Done.{Done}
-use Rattle.answer.proofs.Promised.{done_determined}
+use Rattle.answer.proofs.Promised.{answer_determined}
+use Rattle.answer.specs.Outcome.{Done}
 use Rattle.pixels.specs.Render.{flipped, high_byte}
 use Rattle.pixels.specs.Finish.{Inverted, Straightened}
 
@@ -18,4 +18,4 @@ pub invert_determined : (old x y : List ℕ) → Inverted old x → Inverted old
 invert_determined old x y p q = p ∙ sym q
 
 pub straighten_row_determined : (old : List ℕ) (channels : ℕ) (multiplied white : Bool) (a b : Done) (x y : List ℕ) → Straightened old channels multiplied white a x → Straightened old channels multiplied white b y → (a ≡ b) × (x ≡ y)
-straighten_row_determined old channels multiplied white a b x y = done_determined a b x y
+straighten_row_determined old channels multiplied white a b x y = answer_determined a b x y

@@ -1,5 +1,6 @@
 -- The two calls undo each other: rendering what was written gives the picture, and writing what was rendered gives the planes, but for bilevel padding
 -- bits, which become 0. Assumes nothing.
+use Rattle.std.specs.Prelude.{Ok}
 use Prim.Native.Nat.{ℕ, zero, suc, ◌-◌, ◌/◌, ◌%◌, ◌^◌, ◌≤◌, ◌<◌}
 use mathlib.Core.Path.{◌≡◌, refl, sym, ap, subst, ◌∙◌}
 use mathlib.Core.Logic.{◌⊎◌, inl, inr}
@@ -9,11 +10,9 @@ use native.Mathlib.Omega.{arith}
 use borrow.Author.Tests.{ltb-false, le-ltb}
 use lib.ListN.{length, get_or, take}
 use lib.Dec.{eqb}
-use Rattle.answer.specs.Outcome.{Sound, next, none, done, pick, xor}
+use Rattle.answer.specs.Outcome.{Sound, next, none, done, pick, xor, Done}
 use Rattle.answer.specs.Table.{table}
-use Rattle.answer.specs.declared.Done.{Done}
-use Rattle.answer.specs.declared.Done.TheVariants as DoneIs
-use Rattle.answer.proofs.Promised.{writes, stays, done-sound, sound-done, done_once, sound-front, sound-here, sound_rest, sound_back, sound_more}
+use Rattle.answer.proofs.Promised.{writes, stays, done-sound, sound-done, answer_once, sound-front, sound-here, sound_rest, sound_back, sound_more}
 use Rattle.answer.proofs.Filling.{length-table, table_at, table_same}
 use Rattle.words.specs.Word.{Bytes}
 use Rattle.layout.specs.declared.RasterLayout.{RasterLayout}
@@ -38,7 +37,7 @@ levels_all (suc n) picture all =
     (both (up (two_levels n picture)) (either (equal (get_or picture n 0) 0) (equal (get_or picture n 0) 255))).told (levels_all n picture (λ k h. all k (omega arith)), all n (omega arith))
 
 -- what a call that wrote has shown
-module _ (l : RasterLayout) (picture old planes : List ℕ) (w : Written l picture old DoneIs.Done planes) where
+module _ (l : RasterLayout) (picture old planes : List ℕ) (w : Written l picture old (Ok tt) planes) where
   sound : Sound (write_faults l picture old)
   sound = done-sound (write_faults l picture old) tt tt (sym w.answers)
 
@@ -63,12 +62,12 @@ module _ (l : RasterLayout) (picture old planes : List ℕ) (w : Written l pictu
   planes-front : take l.scratch_len planes ≡ table l.scratch_len (written l picture)
   planes-front = ap (λ (n : ℕ). take n planes) (sym (length-table l.scratch_len (written l picture))) ∙ writes tt planes w
 
-picture_front : (l : RasterLayout) (file raw old out : List ℕ) → Rendered l file raw old DoneIs.Done out → take l.output_len out ≡ table l.output_len (converted l file raw)
+picture_front : (l : RasterLayout) (file raw old out : List ℕ) → Rendered l file raw old (Ok tt) out → take l.output_len out ≡ table l.output_len (converted l file raw)
 picture_front l file raw old out r = ap (λ (n : ℕ). take n out) (sym (length-table l.output_len (converted l file raw))) ∙ writes tt out r
 
 module _ (l : RasterLayout) (file : List ℕ) where
   -- what writing has shown is all that rendering asks of the planes
-  written_renderable : (picture old planes old_out : List ℕ) → Written l picture old DoneIs.Done planes → l.output_len ≤ length old_out → Sound (render_faults l file planes old_out)
+  written_renderable : (picture old planes old_out : List ℕ) → Written l picture old (Ok tt) planes → l.output_len ≤ length old_out → Sound (render_faults l file planes old_out)
   written_renderable picture old planes old_out w room =
       let shown = planes-sound l picture old planes w in
       let fits = ltb-false (length old) l.scratch_len (sound-here (sound_rest (sound_rest (sound_rest (sound_rest shown))))) in
@@ -79,11 +78,11 @@ module _ (l : RasterLayout) (file : List ℕ) where
       (next (le-ltb (length planes) l.scratch_len (omega arith)) (next (le-ltb (length old_out) l.output_len room) none))))
 
   -- so rendering what was written succeeds, where there is room, and gives the picture back
-  pub written_then_rendered : (picture old planes old_out out : List ℕ) (answer : Done) → Bytes picture → l.output_len ≤ length old_out → Written l picture old DoneIs.Done planes → Rendered l file planes old_out answer out → (answer ≡ DoneIs.Done) × (take l.output_len out ≡ take l.output_len picture)
+  pub written_then_rendered : (picture old planes old_out out : List ℕ) (answer : Done) → Bytes picture → l.output_len ≤ length old_out → Written l picture old (Ok tt) planes → Rendered l file planes old_out answer out → (answer ≡ (Ok tt)) × (take l.output_len out ≡ take l.output_len picture)
   written_then_rendered picture old planes old_out out answer bytes room w r = (done-here, picture_is)
     where
-      done-here : answer ≡ DoneIs.Done
-      done-here = done_once answer DoneIs.Done (r.answers ∙ sound-done tt (written_renderable picture old planes old_out w room))
+      done-here : answer ≡ (Ok tt)
+      done-here = answer_once answer (Ok tt) (r.answers ∙ sound-done tt (written_renderable picture old planes old_out w room))
 
       wrote : (i : ℕ) → i < l.scratch_len → get_or planes i 0 ≡ get_or (table l.scratch_len (written l picture)) i 0
       wrote i h = front_at l.scratch_len (written l picture) planes (planes-front l picture old planes w) i h ∙ sym (table_at l.scratch_len (written l picture) i h)
@@ -98,7 +97,7 @@ module _ (l : RasterLayout) (file : List ℕ) where
           ∙ own_front l.output_len picture (picture_long l picture old planes w)
 
   -- what rendering has shown of a picture is all that writing asks of it, the look for two levels included
-  module _ (raw old out : List ℕ) (r : Rendered l file raw old DoneIs.Done out) where
+  module _ (raw old out : List ℕ) (r : Rendered l file raw old (Ok tt) out) where
     rendered_sound : Sound (render_faults l file raw old)
     rendered_sound = done-sound (render_faults l file raw old) tt tt (sym r.answers)
 
@@ -135,13 +134,13 @@ module _ (l : RasterLayout) (file : List ℕ) where
         (next (le-ltb (length out) l.output_len rendered_long) (next (le-ltb (length old_planes) l.scratch_len room) (next (rendered_levels off) none))))))
 
   -- so writing what was rendered succeeds, where there is room, and gives the planes back
-  pub rendered_then_written : (raw old out old_planes planes : List ℕ) (answer : Done) → Bytes raw → l.fields.palette ≡ false → eqb l.fields.alpha 1 ≡ false → l.scratch_len ≤ length old_planes → Rendered l file raw old DoneIs.Done out → Written l out old_planes answer planes → (answer ≡ DoneIs.Done) × (take l.scratch_len planes ≡ table l.scratch_len (unpadded l raw))
+  pub rendered_then_written : (raw old out old_planes planes : List ℕ) (answer : Done) → Bytes raw → l.fields.palette ≡ false → eqb l.fields.alpha 1 ≡ false → l.scratch_len ≤ length old_planes → Rendered l file raw old (Ok tt) out → Written l out old_planes answer planes → (answer ≡ (Ok tt)) × (take l.scratch_len planes ≡ table l.scratch_len (unpadded l raw))
   rendered_then_written raw old out old_planes planes answer bytes off bare room r w = (done-here, planes_are)
     where
-      done-here : answer ≡ DoneIs.Done
-      done-here = done_once answer DoneIs.Done (w.answers ∙ sound-done tt (rendered_writable raw old out r old_planes off bare room))
+      done-here : answer ≡ (Ok tt)
+      done-here = answer_once answer (Ok tt) (w.answers ∙ sound-done tt (rendered_writable raw old out r old_planes off bare room))
 
-      wrote : Written l out old_planes DoneIs.Done planes
+      wrote : Written l out old_planes (Ok tt) planes
       wrote = subst (λ (a : Done). Written l out old_planes a planes) done-here w
 
       shown : (k : ℕ) → k < l.output_len → get_or out k 0 ≡ get_or (table l.output_len (converted l file raw)) k 0
@@ -155,7 +154,7 @@ module _ (l : RasterLayout) (file : List ℕ) where
           written_same l s off out (table l.output_len (converted l file raw)) shown i h ∙ write_rendered l s off bare file raw i h bytes)
 
   -- and where no bits are padding, the planes themselves
-  pub rendered_then_written-plain : (raw old out old_planes planes : List ℕ) (answer : Done) → Bytes raw → l.fields.palette ≡ false → eqb l.fields.alpha 1 ≡ false → eqb l.fields.slots 8 ≡ false → l.scratch_len ≤ length old_planes → Rendered l file raw old DoneIs.Done out → Written l out old_planes answer planes → (answer ≡ DoneIs.Done) × (take l.scratch_len planes ≡ take l.scratch_len raw)
+  pub rendered_then_written-plain : (raw old out old_planes planes : List ℕ) (answer : Done) → Bytes raw → l.fields.palette ≡ false → eqb l.fields.alpha 1 ≡ false → eqb l.fields.slots 8 ≡ false → l.scratch_len ≤ length old_planes → Rendered l file raw old (Ok tt) out → Written l out old_planes answer planes → (answer ≡ (Ok tt)) × (take l.scratch_len planes ≡ take l.scratch_len raw)
   unfolding unpadded
   rendered_then_written-plain raw old out old_planes planes answer bytes off bare several room r w =
       let both = rendered_then_written raw old out old_planes planes answer bytes off bare room r w in

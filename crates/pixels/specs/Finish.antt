@@ -1,8 +1,7 @@
 -- What is done to bytes in place once they stand in the picture's order: white inverted, colours beside alpha made straight. Assumes nothing.
 use Rattle.std.specs.Prelude.{ℕ, ◌+◌, ◌-◌, ◌*◌, ◌/◌, ◌%◌, ◌<◌, ◌≡◌, Bool, true, not, List, [], ◌∷◌, length, get_or, eqb}
-use Rattle.answer.specs.Outcome.{Fault, unless, pick, unsupported, invalid, Promise, done_outcome}
+use Rattle.answer.specs.Outcome.{Fault, unless, pick, unsupported, invalid, Promise, outcome, Done}
 use Rattle.answer.specs.Table.{table, filled, stores}
-use Rattle.answer.specs.declared.Done.{Done}
 use Rattle.pixels.specs.Render.{straightened, straight_colour}
 
 -- every byte inverted; it never refuses (rule 8.1)
@@ -19,7 +18,7 @@ straight_faults old channels = unsupported (eqb channels 0) ∷ invalid (not (eq
 
 abbrev pub Straightened : List ℕ → ℕ → Bool → Bool → Done → List ℕ → Type 0
 Straightened old channels multiplied white answer new =
-    Promise (unless (straight_faults old channels) tt) (table (length old) (straight_at old channels multiplied white)) old (done_outcome answer) new
+    Promise (unless (straight_faults old channels) tt) (table (length old) (straight_at old channels multiplied white)) old (outcome answer) new
 
 -- the share of alpha a: 255 / a in parts of 2^17, rounded up
 unfoldable pub share_of : ℕ → ℕ

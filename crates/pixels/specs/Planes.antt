@@ -1,8 +1,7 @@
 -- Plane writing (rules 7.1 to 7.4): the planes whose rendering is a picture. And the order of `write_planes`' refusals. Assumes nothing.
 use Rattle.std.specs.Prelude.{ℕ, zero, suc, ◌+◌, ◌-◌, ◌*◌, ◌/◌, ◌%◌, Bool, true, not, ◌&&◌, ◌||◌, List, [], ◌∷◌, ◌++◌, length, get_or, eqb, ltb}
-use Rattle.answer.specs.Outcome.{Fault, unless, pick, unsupported, invalid, truncated, output_too_small, Promise, done_outcome, xor}
+use Rattle.answer.specs.Outcome.{Fault, unless, pick, unsupported, invalid, truncated, output_too_small, Promise, xor, outcome, Done}
 use Rattle.answer.specs.Table.{table}
-use Rattle.answer.specs.declared.Done.{Done}
 use Rattle.words.specs.Digits.{digit, value}
 use Rattle.layout.specs.declared.RasterLayout.{RasterLayout}
 use Rattle.layout.specs.Layout.{record_faults, high_first}
@@ -60,7 +59,7 @@ write_faults l picture old = record_faults l ++ plane_faults l picture old
 
 abbrev pub Written : RasterLayout → List ℕ → List ℕ → Done → List ℕ → Type 0
 Written l picture old answer new =
-    Promise (unless (write_faults l picture old) tt) (table l.scratch_len (written l picture)) old (done_outcome answer) new
+    Promise (unless (write_faults l picture old) tt) (table l.scratch_len (written l picture)) old (outcome answer) new
 
 -- planes with the padding bits of bilevel rows 0: what writing gives back of what was rendered
 unfoldable pub unpadded : RasterLayout → List ℕ → ℕ → ℕ

@@ -1,9 +1,8 @@
 -- Rendered bytes, as upstream's `converted` has them, with section 6's rules for what that only calls: where a byte comes from is the layout's
 -- `source_index`. And the order of `render`'s refusals. Assumes nothing.
 use Rattle.std.specs.Prelude.{ℕ, ◌+◌, ◌-◌, ◌*◌, ◌/◌, ◌%◌, ◌^◌, min, Bool, not, ◌&&◌, ◌≡◌, ◌⊎◌, List, [], ◌∷◌, ◌++◌, length, get_or, eqb, ltb}
-use Rattle.answer.specs.Outcome.{Fault, unless, pick, unsupported, truncated, output_too_small, Promise, done_outcome, xor}
+use Rattle.answer.specs.Outcome.{Fault, unless, pick, unsupported, truncated, output_too_small, Promise, xor, outcome, Done}
 use Rattle.answer.specs.Table.{table}
-use Rattle.answer.specs.declared.Done.{Done}
 use Rattle.words.specs.Word.{word_at}
 use Rattle.layout.specs.declared.RasterLayout.{RasterLayout}
 use Rattle.layout.specs.Layout.{record_faults, source_index}
@@ -87,4 +86,4 @@ render_faults l file raw old = record_faults l ++ draw_faults l (length file) (l
 
 abbrev pub Rendered : RasterLayout → List ℕ → List ℕ → List ℕ → Done → List ℕ → Type 0
 Rendered l file raw old answer new =
-    Promise (unless (render_faults l file raw old) tt) (table l.output_len (converted l file raw)) old (done_outcome answer) new
+    Promise (unless (render_faults l file raw old) tt) (table l.output_len (converted l file raw)) old (outcome answer) new

@@ -9,7 +9,7 @@ ghost use Rattle.pixels.specs.Render.{flipped, high_byte};
 ghost use Rattle.pixels.specs.Finish.{Inverted, share_of, StraightBy, ColourBy, PixelGiven, WholePixels, PixelStraightened, PixelsStraightened, Straightened};
 
 use crate::shares::SHARES;
-use answer::{Done, Refusal};
+use answer::Refusal;
 
 // A byte, inverted where white is 0.
 pub fn flip(white: bool, v: u8) -> u8
@@ -130,14 +130,19 @@ fn divide_row(s: &mut [u8], channels: usize, white: bool)
 }
 
 // Colours beside alpha, in place: divided by it if they were multiplied, inverted where white is 0. Each pixel's last byte is its alpha.
-pub fn straighten_row(s: &mut [u8], channels: usize, multiplied: bool, white: bool) -> Done
+pub fn straighten_row(
+    s: &mut [u8],
+    channels: usize,
+    multiplied: bool,
+    white: bool,
+) -> Result<(), Refusal>
     ensures { Straightened s.old channels multiplied white result s.new }
 {
     if channels == 0 {
-        return Done::Refused(Refusal::Unsupported);
+        return Err(Refusal::Unsupported);
     }
     if s.len() % channels != 0 {
-        return Done::Refused(Refusal::Invalid);
+        return Err(Refusal::Invalid);
     }
     if multiplied {
         // two calls, of which the compiler takes neither in: the callers' loops need the registers
@@ -149,5 +154,5 @@ pub fn straighten_row(s: &mut [u8], channels: usize, multiplied: bool, white: bo
     } else {
         straighten_pixels(s, channels, false, white);
     }
-    Done::Done
+    Ok(())
 }

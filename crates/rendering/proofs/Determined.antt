@@ -2,10 +2,10 @@
 use mathlib.Core.Path.{◌≡◌}
 use mathlib.Core.List.{List}
 use Prim.Native.Nat.{ℕ}
-use Rattle.answer.specs.declared.Done.{Done}
-use Rattle.answer.proofs.Promised.{done_determined}
+use Rattle.answer.proofs.Promised.{answer_determined}
+use Rattle.answer.specs.Outcome.{Done}
 use Rattle.layout.specs.declared.RasterLayout.{RasterLayout}
 use Rattle.pixels.specs.Render.{Rendered}
 
 pub render_determined : (l : RasterLayout) (file raw old : List ℕ) (a b : Done) (x y : List ℕ) → Rendered l file raw old a x → Rendered l file raw old b y → (a ≡ b) × (x ≡ y)
-render_determined l file raw old a b x y = done_determined a b x y
+render_determined l file raw old a b x y = answer_determined a b x y

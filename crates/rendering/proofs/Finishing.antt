@@ -8,9 +8,8 @@ use native.Mathlib.Omega.{arith}
 use borrow.Author.Tests.{eq-eqb, ne_eqb, eqb-false}
 use lib.ListN.{length, get_or}
 use lib.Dec.{eqb}
-use Rattle.answer.specs.Outcome.{pick, next, none}
+use Rattle.answer.specs.Outcome.{pick, next, none, Done}
 use Rattle.answer.specs.Table.{table}
-use Rattle.answer.specs.declared.Done.{Done}
 use Rattle.answer.proofs.Promised.{finished}
 use Rattle.answer.proofs.Filling.{length-table, table_at, table_same, table_self, filled-all}
 use Rattle.layout.specs.declared.RasterLayout.{RasterLayout}

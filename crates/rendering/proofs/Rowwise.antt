@@ -7,9 +7,8 @@ use native.Mathlib.Nat.{add-mul, one-mul, mul-one, mul_comm, mul_assoc, mul-le-m
 use native.Mathlib.Omega.{arith}
 use borrow.Author.Tests.{eq-eqb, le-ltb}
 use lib.ListN.{length, get_or}
-use Rattle.answer.specs.Outcome.{Sound, pick, next, none}
+use Rattle.answer.specs.Outcome.{Sound, pick, next, none, Done}
 use Rattle.answer.specs.Table.{table}
-use Rattle.answer.specs.declared.Done.{Done}
 use Rattle.answer.proofs.Promised.{finished}
 use Rattle.answer.proofs.Filling.{part, length_part, part_at, table_same, filled-all}
 use Rattle.words.specs.Word.{Bytes}

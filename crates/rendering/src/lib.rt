@@ -1,7 +1,7 @@
 // Rendering: the picture that the decoded planes of a layout hold, row by row.
 #![tactic(auto)]
 
-use answer::{Done, Refusal, fault, first_of};
+use answer::{Refusal, fault, first_of};
 use layout::RasterLayout;
 
 mod gather;
@@ -70,7 +70,12 @@ fn map_beyond(l: RasterLayout, length: usize) -> bool
 }
 
 // What is refused of a record without a fault, in rule 6.7's order.
-fn check_draw(l: RasterLayout, file_len: usize, raw_len: usize, out_len: usize) -> Done
+fn check_draw(
+    l: RasterLayout,
+    file_len: usize,
+    raw_len: usize,
+    out_len: usize,
+) -> Result<(), Refusal>
     requires { Colours l }
     ensures { Step (draw_faults l file_len raw_len out_len) result }
 {
@@ -82,24 +87,23 @@ fn check_draw(l: RasterLayout, file_len: usize, raw_len: usize, out_len: usize) 
 }
 
 // What is refused at all.
-fn check_render(l: RasterLayout, file_len: usize, raw_len: usize, out_len: usize) -> Done
+fn check_render(
+    l: RasterLayout,
+    file_len: usize,
+    raw_len: usize,
+    out_len: usize,
+) -> Result<(), Refusal>
     ensures { Step (record_faults l ++ draw_faults l file_len raw_len out_len) result }
 {
-    match layout::check_record(l) {
-        Done::Refused(k) => Done::Refused(k),
-        Done::Done => check_draw(l, file_len, raw_len, out_len),
-    }
+    layout::check_record(l)?;
+    check_draw(l, file_len, raw_len, out_len)
 }
 
 // The picture that planes of this layout hold; `file` has the colours of a palette.
-pub fn render(l: RasterLayout, file: &[u8], raw: &[u8], out: &mut [u8]) -> Done
+pub fn render(l: RasterLayout, file: &[u8], raw: &[u8], out: &mut [u8]) -> Result<(), Refusal>
     ensures { Rendered l file.now raw.now out.old result out.new }
 {
-    match check_render(l, file.len(), raw.len(), out.len()) {
-        Done::Refused(k) => Done::Refused(k),
-        Done::Done => {
-            render_rows(l, file, raw, out);
-            Done::Done
-        }
-    }
+    check_render(l, file.len(), raw.len(), out.len())?;
+    render_rows(l, file, raw, out);
+    Ok(())
 }

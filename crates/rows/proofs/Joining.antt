@@ -1,4 +1,5 @@
 -- Two runs of words of a row, the second from where the first ended, are one run. Assumes nothing.
+use Rattle.std.specs.Prelude.{Ok, Err}
 use Prim.{Unit}
 use Rattle.std.proofs.Common.{◌≡◌, ℕ, zero, suc, ◌+◌, ◌-◌, ◌*◌, ◌/◌, ◌%◌, ◌<◌, ◌≤◌, Bool, true, List, ◌++◌, length, get_or, take, drop, sym, refl, ap, ◌∙◌, add-zero, add_assoc, add-suc, mul-le-mul_right, mul_assoc, div-lt_iff_lt-mul, add-mul, mul-le-mul, add_comm, mul-pos, one-mul, div-add-mod', zero-add, mul-div_cancel, arith, le-ltb, lt-ltb, eq-eqb, ne_eqb}
 use native.Mathlib.Nat.{mod-add-mod, add-mul-div_right, add-mul-mod_self_right, mul-mod_left, mod_self, sub-zero, zero-div, zero-mod}
@@ -6,7 +7,6 @@ use native.Mathlib.Decide.{dec_lt}
 use Rattle.answer.specs.Outcome.{Outcome, number, First, Sound, instead}
 use Rattle.answer.specs.Table.{table}
 use Rattle.answer.specs.declared.Refusal.{Refusal}
-use Rattle.answer.specs.declared.Done.TheVariants as DoneIs
 use Rattle.answer.proofs.Promised.{refuses, finishes, first-refused, sound-done}
 use Rattle.answer.proofs.Filling.{part, length_part, table_same, length-filled, halfway, front-filled, both_filled}
 use Rattle.words.specs.Digits.{digit}
@@ -221,13 +221,13 @@ module _ {raw : List ℕ} {first channels width : ℕ} {start old : List ℕ} (f
 
 -- how the promise is met
 module _ {raw : List ℕ} {first channels width : ℕ} {le out_le : Bool} {start old : List ℕ} where
-  pub resume_refused : {kind : Refusal} → First (resume_faults raw first channels width start old) (number kind) → RowResumed raw first channels width le out_le start old (DoneIs.Refused kind) start old
+  pub resume_refused : {kind : Refusal} → First (resume_faults raw first channels width start old) (number kind) → RowResumed raw first channels width le out_le start old (Err kind) start old
   resume_refused {kind} r = record {
     writes = refuses (resume_faults raw first channels width start old) tt _ old r;
     sums = sym (ap (λ (o : Outcome (Unit {0})). instead o (sums_after first channels width (word_of width le raw) start (length raw / width)) start) (first-refused tt r));
   }
 
-  pub resume_none : Sound (resume_faults raw first channels width start old) → length raw ≡ 0 → RowResumed raw first channels width le out_le start old DoneIs.Done start old
+  pub resume_none : Sound (resume_faults raw first channels width start old) → length raw ≡ 0 → RowResumed raw first channels width le out_le start old (Ok tt) start old
   resume_none s none =
       let words = word_of width le raw in
       let same : sums_after first channels width words start (length raw / width) ≡ start = rw (none, zero-div width) in
@@ -236,7 +236,7 @@ module _ {raw : List ℕ} {first channels width : ℕ} {le out_le : Bool} {start
         sums = sym (ap (λ (o : Outcome (Unit {0})). instead o (sums_after first channels width words start (length raw / width)) start) (sound-done tt s) ∙ same);
       }
 
-  pub resume_done : {after front : List ℕ} → Sound (resume_faults raw first channels width start old) → RanInto raw first channels width le out_le start after front → RowResumed raw first channels width le out_le start old DoneIs.Done after (halfway (length raw) old front)
+  pub resume_done : {after front : List ℕ} → Sound (resume_faults raw first channels width start old) → RanInto raw first channels width le out_le start after front → RowResumed raw first channels width le out_le start old (Ok tt) after (halfway (length raw) old front)
   resume_done {after} {front} s is = record {
     writes = finishes (resume_faults raw first channels width start old) tt (length raw) _ old _ s (front-filled _ (length raw) old front (is.wrote ∙ rw (sub-zero (length raw)) (table_same (length raw) _ _ (λ k h. ap (resumed_at raw first channels width le out_le start) (sym (zero-add k))))));
     sums = is.sums ∙ sym (ap (λ (o : Outcome (Unit {0})). instead o (sums_after first channels width (word_of width le raw) start (length raw / width)) start) (sound-done tt s));

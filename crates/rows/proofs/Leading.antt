@@ -2,9 +2,8 @@
 -- And a strip without prediction, whose words all stand for themselves. Assumes nothing.
 use Rattle.std.proofs.Common.{◌≡◌, ℕ, ◌*◌, ◌/◌, ◌%◌, ◌<◌, ◌≤◌, Bool, true, false, not, List, length, take, sym, refl, ap, ◌∙◌, mod-eq_of_lt, div-lt_iff_lt-mul, arith, le-ltb, lt-ltb, eq-eqb}
 use native.Mathlib.Nat.{mul-mod_left, mod-le}
-use Rattle.answer.specs.Outcome.{next, none}
+use Rattle.answer.specs.Outcome.{next, none, Done}
 use Rattle.answer.specs.Table.{filled}
-use Rattle.answer.specs.declared.Done.{Done}
 use Rattle.answer.proofs.Promised.{finished}
 use Rattle.answer.proofs.Filling.{length-filled, filled-same, filled-take, filled_on}
 use Rattle.words.specs.Digits.{digit}

@@ -1,9 +1,8 @@
 -- What is promised of a row that is taken up in its middle (rule 16.6): each sample is its word and the sum so far of its channel, whose place
 -- it takes. Assumes nothing.
 use Rattle.std.specs.Prelude.{◌≡◌, ℕ, zero, suc, ◌+◌, ◌-◌, ◌*◌, ◌/◌, ◌%◌, ◌<◌, ◌≤◌, Bool, true, not, List, [], ◌∷◌, length, ◌==◌, nat_lt, slice_index, slice_set}
-use Rattle.answer.specs.Outcome.{Fault, pick, unless, unsupported, invalid, output_too_small, instead, Promise, done_outcome}
+use Rattle.answer.specs.Outcome.{Fault, pick, unless, unsupported, invalid, output_too_small, instead, Promise, outcome, Done}
 use Rattle.answer.specs.Table.{table, filled}
-use Rattle.answer.specs.declared.Done.{Done}
 use Rattle.words.specs.Word.{word_at, plus}
 use Rattle.words.specs.Promises.{served}
 use Rattle.samples.specs.Sample.{word_of, stored_at}
@@ -35,7 +34,7 @@ resume_faults raw first channels width start old =
     ∷ []
 
 pub record RowResumed (raw : List ℕ) (first channels width : ℕ) (le out_le : Bool) (start old : List ℕ) (answer : Done) (after new : List ℕ) : Type 0 where
-  pub writes : Promise (unless (resume_faults raw first channels width start old) tt) (table (length raw) (resumed_at raw first channels width le out_le start)) old (done_outcome answer) new
+  pub writes : Promise (unless (resume_faults raw first channels width start old) tt) (table (length raw) (resumed_at raw first channels width le out_le start)) old (outcome answer) new
   pub sums : after ≡ instead (unless (resume_faults raw first channels width start old) (tt {0})) (sums_after first channels width (word_of width le raw) start (length raw / width)) start
 
 -- what the private functions need of such words, and what they do

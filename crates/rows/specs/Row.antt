@@ -1,9 +1,8 @@
 -- What is promised of a strip's rows and of one row: conversion, and with `forward` forward prediction. A row is a strip of one row, so
 -- the definitions are the strip's own (rule 3.10). Assumes nothing.
 use Rattle.std.specs.Prelude.{◌≡◌, ℕ, ◌*◌, ◌%◌, ◌<◌, ◌≤◌, Bool, true, List, [], ◌∷◌, ◌++◌, length, take, nat_lt, slice_index}
-use Rattle.answer.specs.Outcome.{unless, output_too_small, pick, Promise, done_outcome, Sound}
+use Rattle.answer.specs.Outcome.{unless, output_too_small, pick, Promise, Sound, outcome, Done}
 use Rattle.answer.specs.Table.{table, filled}
-use Rattle.answer.specs.declared.Done.{Done}
 use Rattle.samples.specs.Sample.{word_of, Strip, strip, Good, sample, difference, stored_at}
 use Rattle.words.specs.Word.{plus}
 use Rattle.words.specs.Promises.{served}
@@ -19,7 +18,7 @@ meant forward g predict le raw = pick forward (difference g predict le raw) (sam
 
 abbrev pub Transformed : List ℕ → Strip → Bool → Bool → Bool → Bool → List ℕ → Done → List ℕ → Type 0
 Transformed raw g predict le out_le forward old answer new =
-    Promise (unless (convert_faults raw g old) tt) (table (length raw) (stored_at g.width out_le (meant forward g predict le raw))) old (done_outcome answer) new
+    Promise (unless (convert_faults raw g old) tt) (table (length raw) (stored_at g.width out_le (meant forward g predict le raw))) old (outcome answer) new
 
 abbrev pub TransformedInto : List ℕ → Strip → Bool → Bool → Bool → Bool → List ℕ → List ℕ → Type 0
 TransformedInto raw g predict le out_le forward old new = new ≡ filled (length raw) (stored_at g.width out_le (meant forward g predict le raw)) old
@@ -29,7 +28,7 @@ RowTransformed raw channels width = Transformed raw (one_row raw channels width)
 
 -- the strip's faults, then that of the room
 abbrev pub RoomChecked : ℕ → Strip → ℕ → Done → Type 0
-RoomChecked bytes g room answer = done_outcome answer ≡ unless (strip_faults bytes g ++ (output_too_small (nat_lt room bytes) ∷ [])) tt
+RoomChecked bytes g room answer = outcome answer ≡ unless (strip_faults bytes g ++ (output_too_small (nat_lt room bytes) ∷ [])) tt
 
 -- what the loop over a strip's rows needs: a strip without a fault, and room
 pub record StripServed (raw : List ℕ) (g : Strip) (out : List ℕ) : Type 0 where

@@ -17,7 +17,7 @@ ghost use Rattle.samples.specs.Sample.{strip};
 ghost use Rattle.rows.specs.Resume.{RowResumed};
 ghost use Rattle.rows.specs.Row.{RowServed, StripServed, RoomChecked, LeadFits, LedInto, one_row, TransformedInto, Transformed, RowTransformed};
 
-use answer::{Done, Refusal};
+use answer::Refusal;
 
 // The first words of a row, which stand for themselves.
 fn lead(raw: &[u8], step: usize, width: usize, le: bool, out_le: bool, out: &mut [u8])
@@ -104,18 +104,20 @@ fn every_row(
 }
 
 // The strip check, then the room.
-fn checked(raw_len: usize, row_bytes: usize, channels: usize, width: usize, out_len: usize) -> Done
+fn checked(
+    raw_len: usize,
+    row_bytes: usize,
+    channels: usize,
+    width: usize,
+    out_len: usize,
+) -> Result<(), Refusal>
     ensures { RoomChecked raw_len (strip row_bytes channels width) out_len result }
 {
-    match samples::check_strip(raw_len, row_bytes, channels, width) {
-        Done::Refused(k) => Done::Refused(k),
-        Done::Done => {
-            if out_len < raw_len {
-                return Done::Refused(Refusal::OutputTooSmall);
-            }
-            Done::Done
-        }
+    samples::check_strip(raw_len, row_bytes, channels, width)?;
+    if out_len < raw_len {
+        return Err(Refusal::OutputTooSmall);
     }
+    Ok(())
 }
 
 // A strip: its samples, or with `forward` the strip predicted. Without prediction its words go over all at once.
@@ -129,20 +131,16 @@ pub fn transform_rows(
     out_le: bool,
     forward: bool,
     out: &mut [u8],
-) -> Done
+) -> Result<(), Refusal>
     ensures { Transformed raw.now (strip row_bytes channels width) predict le out_le forward out.old result out.new }
 {
-    match checked(raw.len(), row_bytes, channels, width, out.len()) {
-        Done::Refused(k) => Done::Refused(k),
-        Done::Done => {
-            if predict {
-                every_row(raw, row_bytes, channels, width, le, out_le, forward, out);
-            } else {
-                samples::reorder(raw, width, le, out_le, out);
-            }
-            Done::Done
-        }
+    checked(raw.len(), row_bytes, channels, width, out.len())?;
+    if predict {
+        every_row(raw, row_bytes, channels, width, le, out_le, forward, out);
+    } else {
+        samples::reorder(raw, width, le, out_le, out);
     }
+    Ok(())
 }
 
 // One row: its samples, or with `forward` the row predicted.
@@ -155,16 +153,12 @@ pub fn transform_row(
     out_le: bool,
     forward: bool,
     out: &mut [u8],
-) -> Done
+) -> Result<(), Refusal>
     ensures { RowTransformed raw.now channels width predict le out_le forward out.old result out.new }
 {
-    match checked(raw.len(), raw.len(), channels, width, out.len()) {
-        Done::Refused(k) => Done::Refused(k),
-        Done::Done => {
-            transform_words(raw, channels, width, le, predict, out_le, forward, out);
-            Done::Done
-        }
-    }
+    checked(raw.len(), raw.len(), channels, width, out.len())?;
+    transform_words(raw, channels, width, le, predict, out_le, forward, out);
+    Ok(())
 }
 
 // Words of a row that is taken up in its middle, at a channel, from the sums so far of its channels; they become those after the words.
@@ -177,29 +171,29 @@ pub fn resume_row(
     out_le: bool,
     sums: &mut [u64],
     out: &mut [u8],
-) -> Done
+) -> Result<(), Refusal>
     ensures { RowResumed raw.now first channels width le out_le sums.old out.old result sums.new out.new }
 {
     if !words::width_served(width) {
-        return Done::Refused(Refusal::Unsupported);
+        return Err(Refusal::Unsupported);
     }
     if 64 < channels {
-        return Done::Refused(Refusal::Unsupported);
+        return Err(Refusal::Unsupported);
     }
     if channels <= first {
-        return Done::Refused(Refusal::Invalid);
+        return Err(Refusal::Invalid);
     }
     if sums.len() < 64 {
-        return Done::Refused(Refusal::Invalid);
+        return Err(Refusal::Invalid);
     }
     if word::past(raw.len(), width) != 0 {
-        return Done::Refused(Refusal::Invalid);
+        return Err(Refusal::Invalid);
     }
     if out.len() < raw.len() {
-        return Done::Refused(Refusal::OutputTooSmall);
+        return Err(Refusal::OutputTooSmall);
     }
     if raw.len() == 0 {
-        return Done::Done;
+        return Ok(());
     }
     let start: usize = 0;
     let end = raw.len();
@@ -213,5 +207,5 @@ pub fn resume_row(
         sums,
         &mut out[start..end],
     );
-    Done::Done
+    Ok(())
 }

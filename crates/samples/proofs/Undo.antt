@@ -1,5 +1,6 @@
 -- Forward prediction then conversion, and conversion then forward prediction, succeed and give the first bytes back: for every strip of bytes, good
 -- geometry, byte orders and prediction flag, shown once over the width. Assumes nothing.
+use Rattle.std.specs.Prelude.{Ok}
 use mathlib.Core.Path.{◌≡◌, refl, sym, ap, subst, ◌∙◌}
 use mathlib.Core.Bool.{Bool, true, false}
 use mathlib.Core.List.{List, [], ◌∷◌}
@@ -9,11 +10,9 @@ use native.Mathlib.Omega.{arith}
 use borrow.Author.Tests.{ltb-false, le-ltb}
 use lib.ListN.{length, take, length-take}
 use lib.Dec.{ltb}
-use Rattle.answer.specs.Outcome.{Sound, next, none, done, unless, output_too_small, Promise, done_outcome}
+use Rattle.answer.specs.Outcome.{Sound, next, none, done, unless, output_too_small, Promise, outcome, Done}
 use Rattle.answer.specs.Table.{table}
-use Rattle.answer.specs.declared.Done.{Done}
-use Rattle.answer.specs.declared.Done.TheVariants as DoneIs
-use Rattle.answer.proofs.Promised.{second_over_first, stays, done_once, done-sound, sound-done, sound-front, sound_back, sound-here, sound_more}
+use Rattle.answer.proofs.Promised.{second_over_first, stays, answer_once, done-sound, sound-done, sound-front, sound_back, sound-here, sound_more}
 use Rattle.answer.proofs.Filling.{length-table}
 use Rattle.words.specs.Word.{Bytes, modulus}
 use Rattle.words.proofs.Words.{modulus_pos, word_below, plus_below, minus_below, plus-minus, minus_plus}
@@ -118,13 +117,13 @@ module _ (raw old x old' y : List ℕ) (g : Strip) (predict le out_le : Bool) (b
     sound : Sound (convert_faults raw g old)
     sound = done-sound (convert_faults raw g old) tt tt (sym p.answers)
 
-    second_done : done_outcome answer ≡ unless (convert_faults (take (length raw) x) g old') tt → answer ≡ DoneIs.Done
+    second_done : outcome answer ≡ unless (convert_faults (take (length raw) x) g old') tt → answer ≡ (Ok tt)
     second_done q =
         let fits = ltb-false (length old) (length raw) (sound-here (sound_back (strip_faults (length raw) g) (output_too_small (ltb (length old) (length raw)) ∷ []) sound)) in
         let same = stays (done tt) x (omega (arith, length-table (length raw) v)) p in
-        done_once answer DoneIs.Done (q ∙ sound-done tt (second_sound raw old x old' g sound same room))
+        answer_once answer (Ok tt) (q ∙ sound-done tt (second_sound raw old x old' g sound same room))
 
-  pub forward_then_convert : Forwarded raw g predict le out_le old DoneIs.Done x → Converted (take (length raw) x) g predict out_le le old' answer y → (answer ≡ DoneIs.Done) × (take (length raw) y ≡ raw)
+  pub forward_then_convert : Forwarded raw g predict le out_le old (Ok tt) x → Converted (take (length raw) x) g predict out_le le old' answer y → (answer ≡ (Ok tt)) × (take (length raw) y ≡ raw)
   forward_then_convert p q =
       let v = stored_at g.width out_le (difference g predict le raw) in
       let is = second_done v p q.answers in
@@ -134,7 +133,7 @@ module _ (raw old x old' y : List ℕ) (g : Strip) (predict le out_le : Bool) (b
             ∙ forward_converted g predict le out_le raw good b,
       )
 
-  pub convert_then_forward : Converted raw g predict le out_le old DoneIs.Done x → Forwarded (take (length raw) x) g predict out_le le old' answer y → (answer ≡ DoneIs.Done) × (take (length raw) y ≡ raw)
+  pub convert_then_forward : Converted raw g predict le out_le old (Ok tt) x → Forwarded (take (length raw) x) g predict out_le le old' answer y → (answer ≡ (Ok tt)) × (take (length raw) y ≡ raw)
   convert_then_forward p q =
       let v = stored_at g.width out_le (sample g predict le raw) in
       let is = second_done v p q.answers in

@@ -6,31 +6,36 @@ ghost use Rattle.answer.specs.Outcome.{xor};
 ghost use Rattle.samples.specs.Sample.{strip};
 ghost use Rattle.samples.specs.Promises.{StripChecked, Reordered};
 
-use answer::{Done, Refusal};
+use answer::Refusal;
 
 // Whether a strip of so many bytes has this geometry: whole rows, each of whole groups of a word for each channel.
-pub fn check_strip(raw_len: usize, row_bytes: usize, channels: usize, width: usize) -> Done
+pub fn check_strip(
+    raw_len: usize,
+    row_bytes: usize,
+    channels: usize,
+    width: usize,
+) -> Result<(), Refusal>
     ensures { StripChecked raw_len (strip row_bytes channels width) result }
 {
     if !words::width_served(width) {
-        return Done::Refused(Refusal::Unsupported);
+        return Err(Refusal::Unsupported);
     }
     if channels == 0 {
-        return Done::Refused(Refusal::Unsupported);
+        return Err(Refusal::Unsupported);
     }
     if 64 < channels {
-        return Done::Refused(Refusal::Unsupported);
+        return Err(Refusal::Unsupported);
     }
     if row_bytes == 0 {
-        return Done::Refused(Refusal::Unsupported);
+        return Err(Refusal::Unsupported);
     }
     if row_bytes % (channels * width) != 0 {
-        return Done::Refused(Refusal::Invalid);
+        return Err(Refusal::Invalid);
     }
     if raw_len % row_bytes != 0 {
-        return Done::Refused(Refusal::Invalid);
+        return Err(Refusal::Invalid);
     }
-    Done::Done
+    Ok(())
 }
 
 fn orders_differ(a: bool, b: bool) -> bool
@@ -40,17 +45,23 @@ fn orders_differ(a: bool, b: bool) -> bool
 }
 
 // The same words in another byte order, or the same: what conversion is without prediction.
-pub fn reorder(raw: &[u8], width: usize, le: bool, out_le: bool, out: &mut [u8]) -> Done
+pub fn reorder(
+    raw: &[u8],
+    width: usize,
+    le: bool,
+    out_le: bool,
+    out: &mut [u8],
+) -> Result<(), Refusal>
     ensures { Reordered raw.now width le out_le out.old result out.new }
 {
     if !words::width_served(width) {
-        return Done::Refused(Refusal::Unsupported);
+        return Err(Refusal::Unsupported);
     }
     if raw.len() % width != 0 {
-        return Done::Refused(Refusal::Invalid);
+        return Err(Refusal::Invalid);
     }
     if out.len() < raw.len() {
-        return Done::Refused(Refusal::OutputTooSmall);
+        return Err(Refusal::OutputTooSmall);
     }
     if orders_differ(le, out_le) {
         swaps::swap_components(raw, width, out)

@@ -1,9 +1,8 @@
 -- One row of a picture whose bytes of the planes hold several samples or palette indices: the row rendered, and a bilevel row written.
 -- What stands in one byte is of pixels' definitions; here is which byte, and the order of the refusals (rules 8.3 to 8.5). Assumes nothing.
 use Rattle.std.specs.Prelude.{ℕ, ◌+◌, ◌-◌, ◌*◌, ◌/◌, ◌%◌, ◌^◌, ◌≤◌, ◌<◌, ◌≡◌, Bool, true, not, List, [], ◌∷◌, length, get_or, eqb, ltb}
-use Rattle.answer.specs.Outcome.{Fault, unless, pick, unsupported, invalid, truncated, output_too_small, Promise, done_outcome}
+use Rattle.answer.specs.Outcome.{Fault, unless, pick, unsupported, invalid, truncated, output_too_small, Promise, outcome, Done}
 use Rattle.answer.specs.Table.{table, filled, stores}
-use Rattle.answer.specs.declared.Done.{Done}
 use Rattle.words.specs.Digits.{value}
 use Rattle.words.specs.Word.{word_at}
 use Rattle.layout.specs.Layout.{one_two_eight}
@@ -23,7 +22,7 @@ bilevel_faults raw old = truncated (ltb (length raw) (eighths (length old))) ∷
 
 abbrev pub BilevelRow : List ℕ → Bool → List ℕ → Done → List ℕ → Type 0
 BilevelRow raw white old answer new =
-    Promise (unless (bilevel_faults raw old) tt) (table (length old) (bilevel_at white raw)) old (done_outcome answer) new
+    Promise (unless (bilevel_faults raw old) tt) (table (length old) (bilevel_at white raw)) old (outcome answer) new
 
 -- colours of a palette, as a layout's `colours`
 abbrev pub colours_of : ℕ → ℕ
@@ -47,7 +46,7 @@ palette_faults file map slots raw out =
 
 abbrev pub PaletteRow : List ℕ → ℕ → ℕ → Bool → List ℕ → List ℕ → Done → List ℕ → Type 0
 PaletteRow file map slots le raw old answer new =
-    Promise (unless (palette_faults (length file) map slots (length raw) (length old)) tt) (table (length old) (palette_at file map slots le raw)) old (done_outcome answer) new
+    Promise (unless (palette_faults (length file) map slots (length raw) (length old)) tt) (table (length old) (palette_at file map slots le raw)) old (outcome answer) new
 
 -- the bit of column k, 0 past the row's end; the byte of the eight columns from k on, the first its highest bit; and byte b of the planes
 abbrev pub bit_at : Bool → List ℕ → ℕ → ℕ
@@ -64,7 +63,7 @@ bit_faults picture old = output_too_small (ltb (length old) (eighths (length pic
 
 abbrev pub BitRow : List ℕ → Bool → List ℕ → Done → List ℕ → Type 0
 BitRow picture white old answer new =
-    Promise (unless (bit_faults picture old) tt) (table (eighths (length picture)) (bits_at white picture)) old (done_outcome answer) new
+    Promise (unless (bit_faults picture old) tt) (table (eighths (length picture)) (bits_at white picture)) old (outcome answer) new
 
 -- what the private functions do: the first n bits of t, from the highest on, each a byte 0 or 255
 abbrev pub Spread : ℕ → ℕ → List ℕ → ℕ → List ℕ → Type 0

@@ -8,7 +8,7 @@ ghost use Rattle.std.specs.Prelude.{◌≡◌, ◌+◌, ◌/◌, ◌≤◌, ltb,
 ghost use Rattle.answer.specs.Outcome.{Step};
 ghost use Rattle.slots.specs.Rows.{eighths as eighthsOf, SpreadInto, BilevelRow, BitsInto, BitRow, palette_faults, PaletteRow};
 
-use answer::{Done, Refusal, fault, first_of};
+use answer::{Refusal, fault, first_of};
 
 // Bytes that hold n bits.
 fn eighths(n: usize) -> usize
@@ -30,19 +30,19 @@ fn spread_whole(raw: &[u8], white: bool, out: &mut [u8])
 }
 
 // A bilevel row: a byte for each bit, the highest bit first.
-pub fn bilevel_row(raw: &[u8], white: bool, out: &mut [u8]) -> Done
+pub fn bilevel_row(raw: &[u8], white: bool, out: &mut [u8]) -> Result<(), Refusal>
     ensures { BilevelRow raw.now white out.old result out.new }
 {
     let bytes = out.len() / 8;
     let rest = out.len() % 8;
     if raw.len() < eighths(out.len()) {
-        return Done::Refused(Refusal::Truncated);
+        return Err(Refusal::Truncated);
     }
     spread_whole(raw, white, out);
     if 0 < rest {
         bits::spread(pixels::flip(white, raw[bytes]), rest, out, 8 * bytes);
     }
-    Done::Done
+    Ok(())
 }
 
 fn whole_bits(picture: &[u8], white: bool, out: &mut [u8])
@@ -58,19 +58,19 @@ fn whole_bits(picture: &[u8], white: bool, out: &mut [u8])
 }
 
 // A bilevel row's bytes: a bit for each byte of the picture, the highest bit first, 0 past the row's end.
-pub fn bit_row(picture: &[u8], white: bool, out: &mut [u8]) -> Done
+pub fn bit_row(picture: &[u8], white: bool, out: &mut [u8]) -> Result<(), Refusal>
     ensures { BitRow picture.now white out.old result out.new }
 {
     let bytes = picture.len() / 8;
     let rest = picture.len() % 8;
     if out.len() < eighths(picture.len()) {
-        return Done::Refused(Refusal::OutputTooSmall);
+        return Err(Refusal::OutputTooSmall);
     }
     whole_bits(picture, white, out);
     if 0 < rest {
         out[bytes] = bits::last_byte(picture, 8 * bytes, white);
     }
-    Done::Done
+    Ok(())
 }
 
 // Whether so many bytes from a place on end past the end of n, in whole numbers.
@@ -84,7 +84,13 @@ fn past_end(n: usize, place: usize, bytes: usize) -> bool
 }
 
 // What a palette row cannot be painted from. The last test divides by the slots, so it waits for the first.
-fn check_palette(file: usize, map: usize, slots: usize, raw: usize, out: usize) -> Done
+fn check_palette(
+    file: usize,
+    map: usize,
+    slots: usize,
+    raw: usize,
+    out: usize,
+) -> Result<(), Refusal>
     ensures { Step (palette_faults file map slots raw out) result }
 {
     let served = fault(
@@ -96,10 +102,8 @@ fn check_palette(file: usize, map: usize, slots: usize, raw: usize, out: usize) 
         past_end(file, map, 6 * paint::colours(slots)),
         Refusal::Truncated,
     );
-    match first_of(served, first_of(whole, mapped)) {
-        Done::Refused(k) => Done::Refused(k),
-        Done::Done => fault(raw < (out / 3 + slots - 1) / slots, Refusal::Truncated),
-    }
+    first_of(served, first_of(whole, mapped))?;
+    fault(raw < (out / 3 + slots - 1) / slots, Refusal::Truncated)
 }
 
 // A palette row: three bytes for each index, from the map of a file.
@@ -110,14 +114,10 @@ pub fn palette_row(
     le: bool,
     raw: &[u8],
     out: &mut [u8],
-) -> Done
+) -> Result<(), Refusal>
     ensures { PaletteRow file.now map slots le raw.now out.old result out.new }
 {
-    match check_palette(file.len(), map, slots, raw.len(), out.len()) {
-        Done::Refused(k) => Done::Refused(k),
-        Done::Done => {
-            paint::paint_row(file, map + pixels::high(le), slots, raw, out);
-            Done::Done
-        }
-    }
+    check_palette(file.len(), map, slots, raw.len(), out.len())?;
+    paint::paint_row(file, map + pixels::high(le), slots, raw, out);
+    Ok(())
 }

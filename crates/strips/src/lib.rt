@@ -4,7 +4,7 @@
 ghost use Rattle.samples.specs.Sample.{strip};
 ghost use Rattle.samples.specs.Promises.{Converted, Forwarded};
 
-use answer::Done;
+use answer::Refusal;
 
 // The samples of a strip, each stored in the asked byte order.
 pub fn convert(
@@ -16,7 +16,7 @@ pub fn convert(
     predict: bool,
     out_le: bool,
     out: &mut [u8],
-) -> Done
+) -> Result<(), Refusal>
     ensures { Converted raw.now (strip row_bytes channels width) predict le out_le out.old result out.new }
 {
     rows::transform_rows(
@@ -34,7 +34,7 @@ pub fn forward(
     predict: bool,
     out_le: bool,
     out: &mut [u8],
-) -> Done
+) -> Result<(), Refusal>
     ensures { Forwarded raw.now (strip row_bytes channels width) predict le out_le out.old result out.new }
 {
     rows::transform_rows(

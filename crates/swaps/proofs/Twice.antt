@@ -1,4 +1,5 @@
 -- Swapping twice gives the first bytes back: a theorem over the promises of two calls, for every width. Assumes nothing.
+use Rattle.std.specs.Prelude.{Ok}
 use mathlib.Core.Path.{◌≡◌, sym, ap, ◌∙◌}
 use mathlib.Core.List.{List}
 use Prim.Native.Nat.{ℕ, ◌%◌, ◌<◌}
@@ -7,7 +8,6 @@ use borrow.Author.Tests.{eqb-true, eqb-false, not-false}
 use lib.ListN.{length, get_or, take}
 use lib.Dec.{eqb}
 use Rattle.answer.specs.Table.{table}
-use Rattle.answer.specs.declared.Done.TheVariants as DoneIs
 use Rattle.answer.proofs.Promised.{second_over_first, done-sound, sound-here, sound_rest}
 use Rattle.answer.proofs.Filling.{table_at, table_same, table_self}
 use Rattle.swaps.specs.Swapped.{mirror, swapped_at, swap_faults, Swapped}
@@ -19,7 +19,7 @@ swapped_back raw width some groups =
     table_same (length raw) _ _ (λ k h. table_at (length raw) (swapped_at raw width) (mirror width k) (mirror_below width (length raw) k some groups h) ∙ ap (λ (j : ℕ). get_or raw j 0) (mirror-mirror width k some))
     ∙ table_self raw
 
-pub swap_twice : (raw old x old' y : List ℕ) (width : ℕ) → Swapped raw width old DoneIs.Done x → Swapped (take (length raw) x) width old' DoneIs.Done y → take (length raw) y ≡ raw
+pub swap_twice : (raw old x old' y : List ℕ) (width : ℕ) → Swapped raw width old (Ok tt) x → Swapped (take (length raw) x) width old' (Ok tt) y → take (length raw) y ≡ raw
 swap_twice raw old x old' y width p q =
     let n = length raw in
     let sound = done-sound (swap_faults raw width old) tt tt (sym p.answers) in

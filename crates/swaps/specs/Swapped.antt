@@ -1,9 +1,8 @@
 -- What `swap_components` promises: each group of `width` bytes written backwards, widths 1 to 8; the refusals are rule 2.8's, in its order.
 -- Bytes are moved, never read as numbers. Assumes nothing.
 use Rattle.std.specs.Prelude.{ℕ, ◌+◌, ◌-◌, ◌%◌, ◌≤◌, ◌<◌, ◌≡◌, true, not, List, [], ◌∷◌, length, get_or, eqb, ltb}
-use Rattle.answer.specs.Outcome.{Fault, unless, unsupported, invalid, output_too_small, Promise, done_outcome}
+use Rattle.answer.specs.Outcome.{Fault, unless, unsupported, invalid, output_too_small, Promise, outcome, Done}
 use Rattle.answer.specs.Table.{table, filled, stores}
-use Rattle.answer.specs.declared.Done.{Done}
 use Rattle.words.specs.Word.{word_at, Put, backwards}
 
 -- the place that mirrors k in its group of `width` bytes
@@ -24,7 +23,7 @@ swap_faults raw width old =
 
 abbrev pub Swapped : List ℕ → ℕ → List ℕ → Done → List ℕ → Type 0
 Swapped raw width old answer new =
-    Promise (unless (swap_faults raw width old) tt) (table (length raw) (swapped_at raw width)) old (done_outcome answer) new
+    Promise (unless (swap_faults raw width old) tt) (table (length raw) (swapped_at raw width)) old (outcome answer) new
 
 -- what the loops that swap need: whole groups, and room for them; and what they do
 pub record SwapFits (raw : List ℕ) (width : ℕ) (out : List ℕ) : Type 0 where

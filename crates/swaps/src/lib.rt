@@ -6,7 +6,7 @@ mod back;
 ghost use Rattle.std.specs.Prelude.{◌≤◌, ◌<◌};
 ghost use Rattle.swaps.specs.Swapped.{Room, Backwards, Swapped, SwapFits, SwappedInto};
 
-use answer::{Done, Refusal};
+use answer::Refusal;
 
 // One group: its last bytes first, then those before them.
 fn swap_group(raw: &[u8], at: usize, width: usize, out: &mut [u8])
@@ -51,21 +51,21 @@ fn swap_groups(raw: &[u8], width: usize, out: &mut [u8])
 }
 
 // Each group of `width` bytes, written backwards.
-pub fn swap_components(raw: &[u8], width: usize, out: &mut [u8]) -> Done
+pub fn swap_components(raw: &[u8], width: usize, out: &mut [u8]) -> Result<(), Refusal>
     ensures { Swapped raw.now width out.old result out.new }
 {
     if width == 0 {
-        return Done::Refused(Refusal::Unsupported);
+        return Err(Refusal::Unsupported);
     }
     if 8 < width {
-        return Done::Refused(Refusal::Unsupported);
+        return Err(Refusal::Unsupported);
     }
     if raw.len() % width != 0 {
-        return Done::Refused(Refusal::Invalid);
+        return Err(Refusal::Invalid);
     }
     if out.len() < raw.len() {
-        return Done::Refused(Refusal::OutputTooSmall);
+        return Err(Refusal::OutputTooSmall);
     }
     swap_groups(raw, width, out);
-    Done::Done
+    Ok(())
 }

@@ -1,8 +1,7 @@
 -- From one tag of a directory to the next, and what was read of all. Assumes nothing.
 use Prim.Native.Nat.{◌<◌, ℕ}
 use Rattle.answer.proofs.Promised.{sound_back, sound-front, sound-here, sound_rest}
-use Rattle.answer.specs.Outcome.{Sound, Step}
-use Rattle.answer.specs.declared.Done.{Done}
+use Rattle.answer.specs.Outcome.{Sound, Step, Done}
 use Rattle.entries.proofs.Seeking.{field_next, from_field}
 use Rattle.entries.specs.Entries.{field_faults, field_from, field_of}
 use Rattle.entries.specs.Parts.{From, Room}

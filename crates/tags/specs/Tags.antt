@@ -1,6 +1,6 @@
 -- The used tags (rules 14.7 to 14.10): of each its values and its contradictions with lower tags, and what they say together. Assumes nothing.
 use Rattle.std.specs.Prelude.{ℕ, ◌+◌, ◌-◌, ◌*◌, ◌/◌, ◌≡◌, Bool, true, false, not, ◌&&◌, ◌||◌, List, [], ◌∷◌, ◌++◌, length, eqb, ltb, leb}
-use Rattle.answer.specs.Outcome.{Outcome, done, refused, number, Fault, unless, unsupported, invalid, pick}
+use Rattle.answer.specs.Outcome.{Outcome, done, refused, number, Fault, unless, unsupported, invalid, pick, outcome, Answer}
 use Rattle.laws.specs.Turns.{every}
 use Rattle.layout.specs.declared.Fields.{Fields}
 use Rattle.entries.specs.declared.Directory.{Directory}
@@ -10,8 +10,6 @@ use Rattle.tags.specs.declared.shape.Shape.{Shape}
 use Rattle.tags.specs.declared.split.Split.{Split}
 use Rattle.tags.specs.declared.extras.Extras.{Extras}
 use Rattle.tags.specs.declared.Tags.{Tags}
-use Rattle.tags.specs.declared.Read.{Read}
-use Rattle.tags.specs.declared.Read.TheVariants as ReadIs
 
 -- a field must be there or has a default; has SHORTs alone or LONGs too; one value or some
 abbrev pub required : Bool
@@ -209,10 +207,5 @@ said_faults file d = shape_faults file d.le (shape_of file d) ++ later_faults fi
 abbrev pub tag_faults : List ℕ → ℕ → List Fault
 tag_faults file page = open_faults file page ++ said_faults file (directory file page)
 
--- the answer of `read_tags`, and what it promises
-abbrev pub read_outcome : Read → Outcome Tags
-read_outcome (ReadIs.Tags t) = done t
-read_outcome (ReadIs.Refused k) = refused (number k)
-
-abbrev pub TagsRead : List ℕ → ℕ → Read → Type 0
-TagsRead file page answer = read_outcome answer ≡ unless (tag_faults file page) (tags_of file (directory file page))
+abbrev pub TagsRead : List ℕ → ℕ → Answer Tags → Type 0
+TagsRead file page answer = outcome answer ≡ unless (tag_faults file page) (tags_of file (directory file page))

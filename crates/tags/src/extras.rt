@@ -7,7 +7,7 @@ ghost use Rattle.entries.specs.Parts.{From};
 use crate::shape::Shape;
 use crate::split::{Split, samples_of};
 use crate::{choose, wide};
-use answer::{Done, Refusal, fault, first_of};
+use answer::{Refusal, fault, first_of};
 use entries::{Directory, Field, check_field, field_from};
 
 #[derive(Clone, Copy)]
@@ -31,7 +31,7 @@ pub(crate) fn read_extras(file: &[u8], d: Directory, from: usize) -> Extras
     }
 }
 
-fn check_predictor(size: usize, depth: u32, f: Field) -> Done
+fn check_predictor(size: usize, depth: u32, f: Field) -> Result<(), Refusal>
     ensures { Step (predictor_faults size depth f) result }
 {
     let field = check_field(size, false, false, false, f);
@@ -59,7 +59,7 @@ pub(crate) fn is_palette(s: Shape) -> bool
     s.photometric.value == 3
 }
 
-fn check_map(size: usize, s: Shape, depth: u32, f: Field) -> Done
+fn check_map(size: usize, s: Shape, depth: u32, f: Field) -> Result<(), Refusal>
     ensures { Step (map_faults size s depth f) result }
 {
     match is_palette(s) {
@@ -67,11 +67,11 @@ fn check_map(size: usize, s: Shape, depth: u32, f: Field) -> Done
             check_field(size, true, false, true, f),
             fault(wide(f.count) != map_values(depth), Refusal::Invalid),
         ),
-        false => Done::Done,
+        false => Ok(()),
     }
 }
 
-fn check_extra(size: usize, s: Shape, t: Split, f: Field) -> Done
+fn check_extra(size: usize, s: Shape, t: Split, f: Field) -> Result<(), Refusal>
     ensures { Step (extra_faults size s t f) result }
 {
     let right = samples_of(s.photometric.value, f.there);
@@ -84,7 +84,13 @@ fn check_extra(size: usize, s: Shape, t: Split, f: Field) -> Done
     first_of(field, first_of(known, all))
 }
 
-pub(crate) fn check_extras(size: usize, s: Shape, t: Split, depth: u32, x: Extras) -> Done
+pub(crate) fn check_extras(
+    size: usize,
+    s: Shape,
+    t: Split,
+    depth: u32,
+    x: Extras,
+) -> Result<(), Refusal>
     ensures { Step (extras_faults size s t depth x) result }
 {
     let predictor = check_predictor(size, depth, x.predictor);

@@ -1,8 +1,8 @@
 // The used tags of a page of a TIFF file: what they say of its layout, its predictor and its strips, and what is wrong with them.
 #![tactic(auto)]
 
-use answer::{Done, Refusal, first_of};
-use entries::{Directory, Field, Opened};
+use answer::{Refusal, first_of};
+use entries::{Directory, Field};
 use layout::Fields;
 
 mod extras;
@@ -29,13 +29,6 @@ pub struct Tags {
     pub each: u32,
     pub offsets: Field,
     pub counts: Field,
-}
-
-// The answer of `read_tags`.
-#[derive(Clone, Copy)]
-pub enum Read {
-    Tags(Tags),
-    Refused(Refusal),
 }
 
 // One of two numbers.
@@ -118,7 +111,7 @@ fn tags_of(le: bool, s: Shape, t: Split, depth: u32, x: Extras) -> Tags
 }
 
 // The tags past 262.
-fn read_later(file: &[u8], d: Directory, s: Shape) -> Read
+fn read_later(file: &[u8], d: Directory, s: Shape) -> Result<Tags, Refusal>
     requires { Shaped file.now d s }
     ensures { LaterRead file.now d result }
 {
@@ -127,30 +120,24 @@ fn read_later(file: &[u8], d: Directory, s: Shape) -> Read
     let depth = shape::depth_of(file, d.le, s.bits);
     let split = split::check_split(file.len(), s, t);
     let extras = extras::check_extras(file.len(), s, t, depth, x);
-    match first_of(split, extras) {
-        Done::Refused(k) => Read::Refused(k),
-        Done::Done => Read::Tags(tags_of(d.le, s, t, depth, x)),
-    }
+    first_of(split, extras)?;
+    Ok(tags_of(d.le, s, t, depth, x))
 }
 
 // The tags of a directory.
-fn read_used(file: &[u8], d: Directory) -> Read
+fn read_used(file: &[u8], d: Directory) -> Result<Tags, Refusal>
     requires { Room file.now d }
     ensures { UsedRead file.now d result }
 {
     let s = shape::read_shape(file, d);
-    match shape::check_shape(file, d.le, s) {
-        Done::Refused(k) => Read::Refused(k),
-        Done::Done => read_later(file, d, s),
-    }
+    shape::check_shape(file, d.le, s)?;
+    read_later(file, d, s)
 }
 
 // The used tags of a page.
-pub fn read_tags(file: &[u8], page: usize) -> Read
+pub fn read_tags(file: &[u8], page: usize) -> Result<Tags, Refusal>
     ensures { TagsRead file.now page result }
 {
-    match entries::open_directory(file, page) {
-        Opened::Refused(k) => Read::Refused(k),
-        Opened::At(d) => read_used(file, d),
-    }
+    let d = entries::open_directory(file, page)?;
+    read_used(file, d)
 }

@@ -4,7 +4,7 @@ ghost use Rattle.answer.specs.Outcome.{Step};
 ghost use Rattle.tags.specs.Tags.{shape_of, depth_of, all_equal, served_depth, bits_faults, served_compression, shape_faults};
 ghost use Rattle.entries.specs.Parts.{Room};
 
-use answer::{Done, Refusal, fault, first_of};
+use answer::{Refusal, fault, first_of};
 use entries::{Directory, Field, check_field, field_from, value};
 
 #[derive(Clone, Copy)]
@@ -67,16 +67,14 @@ fn served_depth(depth: u32) -> bool
 }
 
 // The values are looked at once they are known to be there.
-fn check_bits(file: &[u8], le: bool, f: Field) -> Done
+fn check_bits(file: &[u8], le: bool, f: Field) -> Result<(), Refusal>
     ensures { Step (bits_faults file.now le f) result }
 {
-    match check_field(file.len(), false, false, true, f) {
-        Done::Refused(k) => Done::Refused(k),
-        Done::Done => first_of(
-            fault(f.there & !all_equal(file, le, f), Refusal::Unsupported),
-            fault(!served_depth(depth_of(file, le, f)), Refusal::Unsupported),
-        ),
-    }
+    check_field(file.len(), false, false, true, f)?;
+    first_of(
+        fault(f.there & !all_equal(file, le, f), Refusal::Unsupported),
+        fault(!served_depth(depth_of(file, le, f)), Refusal::Unsupported),
+    )
 }
 
 fn served_compression(compression: u32) -> bool
@@ -85,7 +83,7 @@ fn served_compression(compression: u32) -> bool
     (compression == 1) | (compression == 32773)
 }
 
-pub(crate) fn check_shape(file: &[u8], le: bool, s: Shape) -> Done
+pub(crate) fn check_shape(file: &[u8], le: bool, s: Shape) -> Result<(), Refusal>
     ensures { Step (shape_faults file.now le s) result }
 {
     let size = file.len();

@@ -6,7 +6,7 @@ ghost use Rattle.entries.specs.Parts.{From};
 
 use crate::shape::Shape;
 use crate::{choose, strips_per_plane, wide};
-use answer::{Done, Refusal, fault, first_of};
+use answer::{Refusal, fault, first_of};
 use entries::{Directory, Field, check_field, field_from};
 
 // The rows of a strip where nothing is said: all.
@@ -46,7 +46,7 @@ pub(crate) fn samples_of(photometric: u32, extra: bool) -> usize
     choose(photometric == 2, 3, 1) + choose(extra, 1, 0)
 }
 
-fn check_samples(size: usize, s: Shape, f: Field) -> Done
+fn check_samples(size: usize, s: Shape, f: Field) -> Result<(), Refusal>
     ensures { Step (samples_faults size s f) result }
 {
     let plain = samples_of(s.photometric.value, false);
@@ -67,7 +67,7 @@ fn strips(rows: u32, t: Split) -> usize
     (per as usize) * planes
 }
 
-fn check_planar(size: usize, s: Shape, t: Split) -> Done
+fn check_planar(size: usize, s: Shape, t: Split) -> Result<(), Refusal>
     ensures { Step (planar_faults size s t) result }
 {
     let planar = t.planar.value;
@@ -80,7 +80,7 @@ fn check_planar(size: usize, s: Shape, t: Split) -> Done
     first_of(field, first_of(known, all))
 }
 
-pub(crate) fn check_split(size: usize, s: Shape, t: Split) -> Done
+pub(crate) fn check_split(size: usize, s: Shape, t: Split) -> Result<(), Refusal>
     ensures { Step (split_faults size s t) result }
 {
     let offsets = check_field(size, true, true, true, t.offsets);

@@ -5,8 +5,7 @@ use Prim.Native.Nat.{ℕ}
 use native.Mathlib.Omega.{arith}
 use borrow.Author.Tests.{le-ltb}
 use lib.ListN.{length, get_or, drop, drop_of_length-le}
-use Rattle.answer.specs.declared.Done.{Done}
-use Rattle.answer.specs.Outcome.{next, none}
+use Rattle.answer.specs.Outcome.{next, none, Done}
 use Rattle.answer.proofs.Filling.{table_self}
 use Rattle.answer.proofs.Promised.{finished}
 use Rattle.transport.specs.Moved.{Committed, commit_faults}

@@ -1,9 +1,8 @@
 -- What is promised of bytes that are moved and never read as numbers: a copy, and each byte's bits reversed.
 -- Rules 2.9 and 2.10. Assumes nothing.
 use Rattle.std.specs.Prelude.{ℕ, ◌-◌, ◌≡◌, List, [], ◌∷◌, length, get_or, ltb}
-use Rattle.answer.specs.Outcome.{Fault, unless, output_too_small, Promise, done_outcome}
+use Rattle.answer.specs.Outcome.{Fault, unless, output_too_small, Promise, outcome, Done}
 use Rattle.answer.specs.Table.{table, filled}
-use Rattle.answer.specs.declared.Done.{Done}
 use Rattle.words.specs.Digits.{digit, value}
 
 -- a copy; a source longer than the output is OutputTooSmall
@@ -12,7 +11,7 @@ commit_faults source old = output_too_small (ltb (length old) (length source)) �
 
 abbrev pub Committed : List ℕ → List ℕ → Done → List ℕ → Type 0
 Committed source old answer new =
-    Promise (unless (commit_faults source old) tt) (table (length source) (λ k. get_or source k 0)) old (done_outcome answer) new
+    Promise (unless (commit_faults source old) tt) (table (length source) (λ k. get_or source k 0)) old (outcome answer) new
 
 -- what the loop that copies does
 abbrev pub CopiedInto : List ℕ → List ℕ → List ℕ → Type 0

@@ -8,7 +8,7 @@ ghost use Rattle.laws.specs.Tabled.{Tabled};
 ghost use Rattle.transport.specs.Moved.{Committed, CopiedInto, reversed, Reversed};
 
 use crate::reversed::REVERSED;
-use answer::{Done, Refusal};
+use answer::Refusal;
 
 fn copy(source: &[u8], out: &mut [u8])
     requires { length source.now ≤ length out.old }
@@ -22,14 +22,14 @@ fn copy(source: &[u8], out: &mut [u8])
 }
 
 // A copy of the source at the front of the output.
-pub fn commit_uninit(source: &[u8], out: &mut [u8]) -> Done
+pub fn commit_uninit(source: &[u8], out: &mut [u8]) -> Result<(), Refusal>
     ensures { Committed source.now out.old result out.new }
 {
     if out.len() < source.len() {
-        return Done::Refused(Refusal::OutputTooSmall);
+        return Err(Refusal::OutputTooSmall);
     }
     copy(source, out);
-    Done::Done
+    Ok(())
 }
 
 fn reversed_byte(b: u8) -> u8

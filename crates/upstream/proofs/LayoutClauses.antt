@@ -11,18 +11,12 @@ use borrow.Author.Tests.{eqb-false, eq-eqb, ne_eqb, ltb-false, lt-ltb, le-ltb, l
 use lib.ListN.{length, get_or, take}
 use lib.Seq.{get_or-take}
 use lib.Dec.{eqb, ltb, leb}
-use Rattle.answer.specs.Outcome.{refused, Fault, pick, Sound, next, none, First, here, later, done_outcome, unsupported, invalid, truncated, output_too_small}
+use Rattle.answer.specs.Outcome.{refused, Fault, pick, Sound, next, none, First, here, later, unsupported, invalid, truncated, output_too_small, outcome, place_outcome, Answer, Done}
 use Rattle.answer.specs.declared.ByteAt.{ByteAt}
-use Rattle.answer.specs.declared.Done.{Done}
-use Rattle.answer.specs.declared.Done.TheVariants as DoneIs
 use Rattle.answer.proofs.Promised.{sound-here, sound_rest, sound-front, sound_more, sound_then, first_more, refused-first, sound_back}
 use Rattle.layout.specs.declared.Fields.{Fields}
 use Rattle.layout.specs.declared.RasterLayout.{RasterLayout}
-use Rattle.layout.specs.declared.Checked.{Checked}
-use Rattle.layout.specs.declared.Checked.TheVariants as CheckedIs
-use Rattle.layout.specs.declared.Place.{Place}
-use Rattle.layout.specs.declared.Place.TheVariants as PlaceIs
-use Rattle.layout.specs.Layout.{byte_limit, record_faults, index_faults, place_outcome, LayoutChecked, RecordChecked, Indexed}
+use Rattle.layout.specs.Layout.{byte_limit, record_faults, index_faults, LayoutChecked, RecordChecked, Indexed}
 use Rattle.layout.specs.Layout as Ours
 use Rattle.layout.specs.Valid.{Valid, Within}
 use Rattle.layout.proofs.Placed.{scratch_limited}
@@ -37,17 +31,17 @@ use Rattle.upstream.proofs.Calls.{ok_sound, sound_ok, value-is, refused_for, byt
 
 -- a record that one of our two checks takes
 abbrev pub Taken : RasterLayout → Type 0
-Taken l = RecordChecked l DoneIs.Done ⊎ ((f : Fields) × LayoutChecked f (CheckedIs.Done l))
+Taken l = RecordChecked l (Ok tt) ⊎ ((f : Fields) × LayoutChecked f (Ok l))
 
 pub taken_valid : (l : RasterLayout) → Taken l → Valid l × Within l
 taken_valid l (inl p) = Theorems.record_valid l p
 taken_valid l (inr c) = (Theorems.checked_valid c.0 l c.1).0
 
 -- and each takes every record that is valid within the limits
-pub valid_taken : (l : RasterLayout) → Valid l → Within l → (answer : Done) → RecordChecked l answer → answer ≡ DoneIs.Done
+pub valid_taken : (l : RasterLayout) → Valid l → Within l → (answer : Done) → RecordChecked l answer → answer ≡ (Ok tt)
 valid_taken l v t answer p = Theorems.valid_record l answer v t p
 
-pub valid_answered : (l : RasterLayout) → Valid l → Within l → (answer : Checked) → LayoutChecked l.fields answer → answer ≡ CheckedIs.Done l
+pub valid_answered : (l : RasterLayout) → Valid l → Within l → (answer : Answer RasterLayout) → LayoutChecked l.fields answer → answer ≡ Ok l
 valid_answered l v t answer p = Theorems.valid_checked l answer v t p
 
 -- `valid`, line by line
@@ -100,24 +94,24 @@ module _ (l : RasterLayout) (k : ℕ) where
   past = invalid (leb l.output_len k) ∷ []
 
   -- its premises are our refusals: it is ok exactly where they hold, within the limits; and a place past the output is Invalid
-  pub index_ok_exactly : (answer : Place) → Indexed l k answer → Exactly (Ok (place_outcome answer)) ((Valid l × Within l) × (k < l.output_len))
+  pub index_ok_exactly : (answer : Answer ByteAt) → Indexed l k answer → Exactly (Ok (place_outcome answer)) ((Valid l × Within l) × (k < l.output_len))
   index_ok_exactly answer p = (
     λ o. let s = ok_sound (index_faults l k) (Ours.source_index l k) p o in (record_sound_valid l (sound-front (record_faults l) past s), leb-false l.output_len k (sound-here (sound_back (record_faults l) past s))),
     λ v. sound_ok (index_faults l k) (Ours.source_index l k) p (sound_more (valid_record_sound l v.0.0 v.0.1) (next (lt-leb l.output_len k v.1) none)),
   )
 
-  pub index_record_refused : (n : ℕ) (checked : Done) (answer : Place) → RecordChecked l checked → done_outcome checked ≡ refused n → Indexed l k answer → place_outcome answer ≡ refused n
+  pub index_record_refused : (n : ℕ) (checked : Done) (answer : Answer ByteAt) → RecordChecked l checked → outcome checked ≡ refused n → Indexed l k answer → place_outcome answer ≡ refused n
   index_record_refused n checked answer c e p =
       refused_for (index_faults l k) (Ours.source_index l k) p (first_more _ (refused-first (record_faults l) tt n (sym c ∙ e)))
 
-  pub index_past_refused : (answer : Place) → Indexed l k answer → Valid l → Within l → l.output_len ≤ k → place_outcome answer ≡ refused 2
+  pub index_past_refused : (answer : Answer ByteAt) → Indexed l k answer → Valid l → Within l → l.output_len ≤ k → place_outcome answer ≡ refused 2
   index_past_refused answer p v t h =
       refused_for (index_faults l k) (Ours.source_index l k) p (sound_then (valid_record_sound l v t) (here (le-leb l.output_len k h)))
 
-  pub index_is-source_index : (at : ByteAt) → Indexed l k (PlaceIs.Done at) → at.0 ≡ source_index l k
+  pub index_is-source_index : (at : ByteAt) → Indexed l k (Ok at) → at.0 ≡ source_index l k
   index_is-source_index at p = value-is (index_faults l k) (Ours.source_index l k) p at.0 refl ∙ sym (source_index-same l k)
 
-  pub index_below_scratch : (at : ByteAt) → Indexed l k (PlaceIs.Done at) → at.0 < l.scratch_len
+  pub index_below_scratch : (at : ByteAt) → Indexed l k (Ok at) → at.0 < l.scratch_len
   index_below_scratch at p = Theorems.index_below_scratch l k at p
 
 -- what `well_formed` says of a layout besides, with step 3's limit for its largest output
@@ -199,33 +193,33 @@ module _ (l : RasterLayout) (file raw old : List ℕ) where
 
   module _ (answer : Done) (new : List ℕ) (p : Rendered l file raw old answer new) where
     -- upstream's premises are our refusals: ok exactly where they hold, within the limits
-    pub render_ok_exactly : Exactly (Ok (done_outcome answer)) (RenderPremises l file raw old)
+    pub render_ok_exactly : Exactly (Ok (outcome answer)) (RenderPremises l file raw old)
     render_ok_exactly = (
       λ o. premises (ok_sound (render_faults l file raw old) tt p.answers o),
       λ r. sound_ok (render_faults l file raw old) tt p.answers (premises_sound r),
     )
 
     -- which refusal each is
-    told : {n : ℕ} → First (render_faults l file raw old) n → done_outcome answer ≡ refused n
+    told : {n : ℕ} → First (render_faults l file raw old) n → outcome answer ≡ refused n
     told r = refused_for (render_faults l file raw old) tt p.answers r
 
-    pub render_record_refused : (n : ℕ) (checked : Done) → RecordChecked l checked → done_outcome checked ≡ refused n → done_outcome answer ≡ refused n
+    pub render_record_refused : (n : ℕ) (checked : Done) → RecordChecked l checked → outcome checked ≡ refused n → outcome answer ≡ refused n
     render_record_refused n checked c e = told (first_more further (refused-first (record_faults l) tt n (sym c ∙ e)))
 
     module _ (v : Valid l) (t : Within l) where
-      pub render_eight_bytes-refused : l.fields.bytes ≡ 8 → done_outcome answer ≡ refused 1
+      pub render_eight_bytes-refused : l.fields.bytes ≡ 8 → outcome answer ≡ refused 1
       render_eight_bytes-refused e = told (sound_then (valid_record_sound l v t) (here (eq-eqb l.fields.bytes 8 e)))
 
-      pub render_map-refused : (l.fields.bytes ≡ 8 → ⊥) → l.fields.palette ≡ true → length file < l.fields.map + 6 * l.colors → done_outcome answer ≡ refused 3
+      pub render_map-refused : (l.fields.bytes ≡ 8 → ⊥) → l.fields.palette ≡ true → length file < l.fields.map + 6 * l.colors → outcome answer ≡ refused 3
       render_map-refused b e h =
           let found : (l.fields.palette && ltb (length file) (l.fields.map + 6 * l.colors)) ≡ true = rw e (lt-ltb (length file) (l.fields.map + 6 * l.colors) h) in
           told (sound_then (valid_record_sound l v t) (later (ne_eqb l.fields.bytes 8 b) (here found)))
 
-      pub render_planes-refused : (l.fields.bytes ≡ 8 → ⊥) → (l.fields.palette ≡ true → l.fields.map + 6 * l.colors ≤ length file) → length raw < l.scratch_len → done_outcome answer ≡ refused 3
+      pub render_planes-refused : (l.fields.bytes ≡ 8 → ⊥) → (l.fields.palette ≡ true → l.fields.map + 6 * l.colors ≤ length file) → length raw < l.scratch_len → outcome answer ≡ refused 3
       render_planes-refused b m h =
           told (sound_then (valid_record_sound l v t) (later (ne_eqb l.fields.bytes 8 b) (later (map-fits m) (here (lt-ltb (length raw) l.scratch_len h)))))
 
-      pub render_output_refused : (l.fields.bytes ≡ 8 → ⊥) → (l.fields.palette ≡ true → l.fields.map + 6 * l.colors ≤ length file) → l.scratch_len ≤ length raw → length old < l.output_len → done_outcome answer ≡ refused 4
+      pub render_output_refused : (l.fields.bytes ≡ 8 → ⊥) → (l.fields.palette ≡ true → l.fields.map + 6 * l.colors ≤ length file) → l.scratch_len ≤ length raw → length old < l.output_len → outcome answer ≡ refused 4
       render_output_refused b m r h =
           told (sound_then (valid_record_sound l v t) (later (ne_eqb l.fields.bytes 8 b) (later (map-fits m) (later (le-ltb (length raw) l.scratch_len r) (here (lt-ltb (length old) l.output_len h))))))
 
@@ -233,7 +227,7 @@ module _ (l : RasterLayout) (file raw old : List ℕ) where
     render_length-kept = length-kept (render_faults l file raw old) tt l.output_len (Render.converted l file raw) old new p (λ s. (premises s).room)
 
     -- byte k is upstream's `converted` of the planes' own bytes
-    pub render_bytes : Ok (done_outcome answer) → (k : ℕ) → k < l.output_len → get_or new k 0 ≡ converted l file (take l.scratch_len raw) k
+    pub render_bytes : Ok (outcome answer) → (k : ℕ) → k < l.output_len → get_or new k 0 ≡ converted l file (take l.scratch_len raw) k
     render_bytes o k h =
         let s = sound-front (record_faults l) further (ok_sound (render_faults l file raw old) tt p.answers o) in
         bytes-written (render_faults l file raw old) tt l.output_len (Render.converted l file raw) old new p o k h

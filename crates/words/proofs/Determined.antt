@@ -1,18 +1,14 @@
 -- Each promise of this crate allows one outcome. Assumes nothing.
+use Rattle.std.specs.Prelude.{Ok, Err}
 use mathlib.Core.Path.{◌≡◌, refl, sym, ap, ◌∙◌}
 use mathlib.Core.Bool.{Bool}
 use mathlib.Core.List.{List, [], ◌∷◌}
 use Prim.Native.Nat.{ℕ}
-use Rattle.answer.specs.Outcome.{Outcome, done, refused}
-use Rattle.answer.proofs.Promised.{kind, kind-number, once}
-use Rattle.words.specs.declared.Word.{Word}
-use Rattle.words.specs.declared.Word.TheVariants as WordIs
-use Rattle.words.specs.declared.Loaded.{Loaded}
-use Rattle.words.specs.declared.Loaded.TheVariants as LoadedIs
-use Rattle.words.specs.declared.Place.{Place}
-use Rattle.words.specs.declared.Place.TheVariants as PlaceIs
+use Rattle.answer.specs.Outcome.{Outcome, done, refused, outcome, place_outcome, Answer}
+use Rattle.answer.proofs.Promised.{kind, kind-number, once, place_once, answer_once}
+use Rattle.answer.specs.declared.ByteAt.{ByteAt}
 use Rattle.words.specs.Word.{backwards}
-use Rattle.words.specs.Promises.{served, Joined, Placed, ReadWord, LoadedWord, word_outcome, loaded_outcome, place_outcome}
+use Rattle.words.specs.Promises.{served, Joined, Placed, ReadWord, LoadedWord}
 
 pub width_served_determined : (width : ℕ) (a b : Bool) → a ≡ served width → b ≡ served width → a ≡ b
 width_served_determined width a b p q = p ∙ sym q
@@ -47,35 +43,11 @@ backwards4_determined = backwards_determined 4
 pub backwards8_determined : (v x y : ℕ) → x ≡ backwards 8 v → y ≡ backwards 8 v → x ≡ y
 backwards8_determined = backwards_determined 8
 
-abbrev place-back : Outcome ℕ → Place
-place-back (done v) = PlaceIs.At (record { 0 = v })
-place-back (refused n) = PlaceIs.Refused (kind n)
+pub byte_place_determined : (i width bytes : ℕ) (a b : Answer ByteAt) → Placed i width bytes a → Placed i width bytes b → a ≡ b
+byte_place_determined i width bytes a b p q = place_once a b (p ∙ sym q)
 
-place_told : (a : Place) → place-back (place_outcome a) ≡ a
-place_told (PlaceIs.At at) = refl
-place_told (PlaceIs.Refused k) = ap PlaceIs.Refused (kind-number k)
+pub read_word_determined : (s : List ℕ) (at width : ℕ) (le : Bool) (a b : Answer ℕ) → ReadWord s at width le a → ReadWord s at width le b → a ≡ b
+read_word_determined s at width le a b p q = answer_once a b (p ∙ sym q)
 
-pub byte_place_determined : (i width bytes : ℕ) (a b : Place) → Placed i width bytes a → Placed i width bytes b → a ≡ b
-byte_place_determined i width bytes a b p q = once place_outcome place-back place_told a b (p ∙ sym q)
-
-abbrev word_back : Outcome ℕ → Word
-word_back (done v) = WordIs.Value v
-word_back (refused n) = WordIs.Refused (kind n)
-
-word_told : (a : Word) → word_back (word_outcome a) ≡ a
-word_told (WordIs.Value v) = refl
-word_told (WordIs.Refused k) = ap WordIs.Refused (kind-number k)
-
-pub read_word_determined : (s : List ℕ) (at width : ℕ) (le : Bool) (a b : Word) → ReadWord s at width le a → ReadWord s at width le b → a ≡ b
-read_word_determined s at width le a b p q = once word_outcome word_back word_told a b (p ∙ sym q)
-
-abbrev loaded_back : Outcome ℕ → Loaded
-loaded_back (done v) = LoadedIs.Value v
-loaded_back (refused n) = LoadedIs.Refused (kind n)
-
-loaded_told : (a : Loaded) → loaded_back (loaded_outcome a) ≡ a
-loaded_told (LoadedIs.Value v) = refl
-loaded_told (LoadedIs.Refused k) = ap LoadedIs.Refused (kind-number k)
-
-pub load_determined : (s : List ℕ) (i : ℕ) (wide le : Bool) (a b : Loaded) → LoadedWord s i wide le a → LoadedWord s i wide le b → a ≡ b
-load_determined s i wide le a b p q = once loaded_outcome loaded_back loaded_told a b (p ∙ sym q)
+pub load_determined : (s : List ℕ) (i : ℕ) (wide le : Bool) (a b : Answer ℕ) → LoadedWord s i wide le a → LoadedWord s i wide le b → a ≡ b
+load_determined s i wide le a b p q = answer_once a b (p ∙ sym q)

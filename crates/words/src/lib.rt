@@ -7,27 +7,6 @@ ghost use Rattle.words.specs.Promises.{served, load_width, Joined, Placed, ReadW
 
 use answer::{ByteAt, Refusal, SampleAt};
 
-// The answer of `read_word`.
-#[derive(Clone, Copy)]
-pub enum Word {
-    Value(u64),
-    Refused(Refusal),
-}
-
-// The answer of `load`.
-#[derive(Clone, Copy)]
-pub enum Loaded {
-    Value(u32),
-    Refused(Refusal),
-}
-
-// The answer of `byte_place`.
-#[derive(Clone, Copy)]
-pub enum Place {
-    At(ByteAt),
-    Refused(Refusal),
-}
-
 // Whether words of this many bytes are read.
 pub fn width_served(width: usize) -> bool
     ensures { result ≡ served width }
@@ -112,17 +91,17 @@ pub fn backwards8(v: u64) -> u64
 }
 
 // The byte at which sample i begins, among `length` bytes of samples of this width.
-pub fn byte_place(i: SampleAt, width: usize, length: usize) -> Place
+pub fn byte_place(i: SampleAt, width: usize, length: usize) -> Result<ByteAt, Refusal>
     ensures { Placed i.0 width length result }
 {
     let n = i.0;
     if width == 0 {
-        return Place::Refused(Refusal::Unsupported);
+        return Err(Refusal::Unsupported);
     }
     if length / width <= n {
-        return Place::Refused(Refusal::Truncated);
+        return Err(Refusal::Truncated);
     }
-    Place::At(ByteAt(n * width))
+    Ok(ByteAt(n * width))
 }
 
 fn little2(s: &[u8], at: usize) -> u16
@@ -184,20 +163,20 @@ fn get(s: &[u8], at: usize, width: usize, le: bool) -> u64
 }
 
 // The word of `width` bytes at a place.
-pub fn read_word(s: &[u8], at: ByteAt, width: usize, le: bool) -> Word
+pub fn read_word(s: &[u8], at: ByteAt, width: usize, le: bool) -> Result<u64, Refusal>
     ensures { ReadWord s.now at.0 width le result }
 {
     let at = at.0;
     if !width_served(width) {
-        return Word::Refused(Refusal::Unsupported);
+        return Err(Refusal::Unsupported);
     }
     if s.len() < width {
-        return Word::Refused(Refusal::Truncated);
+        return Err(Refusal::Truncated);
     }
     if s.len() - width < at {
-        return Word::Refused(Refusal::Truncated);
+        return Err(Refusal::Truncated);
     }
-    Word::Value(get(s, at, width, le))
+    Ok(get(s, at, width, le))
 }
 
 fn load_width(wide: bool) -> usize
@@ -207,15 +186,10 @@ fn load_width(wide: bool) -> usize
 }
 
 // Sample i of one byte, or of two if `wide`.
-pub fn load(s: &[u8], i: SampleAt, wide: bool, le: bool) -> Loaded
+pub fn load(s: &[u8], i: SampleAt, wide: bool, le: bool) -> Result<u32, Refusal>
     ensures { LoadedWord s.now i.0 wide le result }
 {
     let width = load_width(wide);
-    match byte_place(i, width, s.len()) {
-        Place::At(at) => {
-            let at = at.0;
-            Loaded::Value(get(s, at, width, le) as u32)
-        }
-        Place::Refused(k) => Loaded::Refused(k),
-    }
+    let at = byte_place(i, width, s.len())?;
+    Ok(get(s, at.0, width, le) as u32)
 }

@@ -7,9 +7,8 @@ use native.Mathlib.Omega.{arith}
 use borrow.Author.Tests.{eq-eqb, ne_eqb, le-ltb}
 use lib.ListN.{length, get_or}
 use lib.Dec.{eqb}
-use Rattle.answer.specs.Outcome.{pick, Sound, next, none}
+use Rattle.answer.specs.Outcome.{pick, Sound, next, none, Done}
 use Rattle.answer.specs.Table.{table}
-use Rattle.answer.specs.declared.Done.{Done}
 use Rattle.answer.proofs.Promised.{finished}
 use Rattle.answer.proofs.Filling.{table_at, table_same, table_self, length-table, filled-all}
 use Rattle.words.specs.Word.{Bytes}

@@ -9,9 +9,8 @@ use native.Mathlib.Omega.{arith}
 use borrow.Author.Tests.{eq-eqb, ne_eqb, eqb-true, eqb-false, ltb-true, le-ltb}
 use lib.ListN.{length, get_or, take, drop}
 use lib.Dec.{eqb, ltb}
-use Rattle.answer.specs.Outcome.{Sound, next, none, pick}
+use Rattle.answer.specs.Outcome.{Sound, next, none, pick, Done}
 use Rattle.answer.specs.Table.{table, filled}
-use Rattle.answer.specs.declared.Done.{Done}
 use Rattle.answer.proofs.Promised.{finished}
 use Rattle.answer.proofs.Filling.{table_same, part, part_at, length_part, part_filled, length-filled, filled-all}
 use Rattle.words.proofs.Digits.{value_same}

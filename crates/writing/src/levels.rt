@@ -4,7 +4,7 @@ ghost use Rattle.answer.specs.Outcome.{Step};
 ghost use Rattle.pixels.specs.Planes.{two_levels};
 ghost use Rattle.writing.specs.Parts.{LevelsAsked, level_faults};
 
-use answer::{Done, Refusal, fault};
+use answer::{Refusal, fault};
 use layout::RasterLayout;
 
 // One of a bilevel picture's two levels.
@@ -38,12 +38,12 @@ fn two_levels(picture: &[u8], w: usize, h: usize) -> bool
 }
 
 // The last refusal: a bilevel picture's bytes are 0 and 255.
-pub(crate) fn check_levels(l: RasterLayout, picture: &[u8]) -> Done
+pub(crate) fn check_levels(l: RasterLayout, picture: &[u8]) -> Result<(), Refusal>
     requires { LevelsAsked l picture.now }
     ensures { Step (level_faults l picture.now) result }
 {
     if l.fields.slots != 8 {
-        return Done::Done;
+        return Ok(());
     }
     fault(
         !two_levels(picture, l.fields.w, l.fields.h),

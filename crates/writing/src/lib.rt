@@ -11,11 +11,11 @@ ghost use Rattle.layout.specs.Layout.{record_faults};
 ghost use Rattle.pixels.specs.Planes.{plane_faults, write_faults, Written};
 ghost use Rattle.writing.specs.Parts.{planar as planarOf, WriteServed, WrittenInto};
 
-use answer::{Done, Refusal, fault, first_of};
+use answer::{Refusal, fault, first_of};
 use layout::RasterLayout;
 
 // What is refused of a record without a fault, in rule 7.3's order. The bytes of a picture are looked at last, and only if all of them are there.
-fn check_planes(l: RasterLayout, picture: &[u8], planes: &[u8]) -> Done
+fn check_planes(l: RasterLayout, picture: &[u8], planes: &[u8]) -> Result<(), Refusal>
     requires { Sound (record_faults l) }
     ensures { Step (plane_faults l picture.now planes.now) result }
 {
@@ -24,23 +24,19 @@ fn check_planes(l: RasterLayout, picture: &[u8], planes: &[u8]) -> Done
     let multiplied = fault(l.fields.alpha == 1, Refusal::Unsupported);
     let short = fault(picture.len() < l.output_len, Refusal::Truncated);
     let room = fault(planes.len() < l.scratch_len, Refusal::OutputTooSmall);
-    match first_of(
+    first_of(
         map,
         first_of(wide, first_of(multiplied, first_of(short, room))),
-    ) {
-        Done::Refused(k) => Done::Refused(k),
-        Done::Done => levels::check_levels(l, picture),
-    }
+    )?;
+    levels::check_levels(l, picture)
 }
 
 // What is refused at all.
-fn check_write(l: RasterLayout, picture: &[u8], planes: &[u8]) -> Done
+fn check_write(l: RasterLayout, picture: &[u8], planes: &[u8]) -> Result<(), Refusal>
     ensures { Step (write_faults l picture.now planes.now) result }
 {
-    match layout::check_record(l) {
-        Done::Refused(k) => Done::Refused(k),
-        Done::Done => check_planes(l, picture, planes),
-    }
+    layout::check_record(l)?;
+    check_planes(l, picture, planes)
 }
 
 // Whether channels stand in planes of their own.
@@ -63,14 +59,10 @@ fn write(l: RasterLayout, picture: &[u8], planes: &mut [u8])
 }
 
 // The planes whose rendering is a picture.
-pub fn write_planes(l: RasterLayout, picture: &[u8], planes: &mut [u8]) -> Done
+pub fn write_planes(l: RasterLayout, picture: &[u8], planes: &mut [u8]) -> Result<(), Refusal>
     ensures { Written l picture.now planes.old result planes.new }
 {
-    match check_write(l, picture, planes) {
-        Done::Refused(kind) => Done::Refused(kind),
-        Done::Done => {
-            write(l, picture, planes);
-            Done::Done
-        }
-    }
+    check_write(l, picture, planes)?;
+    write(l, picture, planes);
+    Ok(())
 }

@@ -4,9 +4,9 @@ use Prim.Native.Nat.{ℕ, ◌+◌}
 use mathlib.Core.Path.{◌≡◌, refl}
 use mathlib.Core.List.{List}
 use lib.ListN.{drop}
-use Rattle.answer.specs.Outcome.{Sound}
+use Rattle.answer.specs.Outcome.{Sound, outcome}
 use Rattle.answer.proofs.Promised.{refusing}
-use Rattle.packbits.specs.Rows.{row_faults, rows_faults, used, used_outcome, RowMeasured}
+use Rattle.packbits.specs.Rows.{row_faults, rows_faults, used, RowMeasured}
 use Rattle.packbits.proofs.Packets.{RowsLooked, rows-first, rows_on, rows_end, rows_turned, rest_of}
 use Rattle.laws.proofs.Faults.{answered, declined}
 use Rattle.packbits.proofs.check_rows.Goals.{After-row_used, In-Used}
@@ -21,7 +21,7 @@ done : (c : In-Used) → let rest : List ℕ = drop c.loop-k.at c.args.packed.no
 done c =
     let rest : List ℕ = drop c.loop-k.at c.args.packed.now in
     let measured : RowMeasured rest c.args.row_bytes c.row_used.result = rw (rest_of c.args.packed.now c.loop-k.at) at c.row_used.ensures in
-    let n = c.args.row_bytes in answered used_outcome (row_faults rest n) (used rest n) measured c.in-Used.is refl
+    let n = c.args.row_bytes in answered outcome (row_faults rest n) (used rest n) measured c.in-Used.is refl
 
 next : (c : In-Used) → RowsLooked c.args.packed.now c.turns-all.result c.args.row_bytes (c.loop-k.at + c.in-Used.n) (c.loop-k.k + 1)
 next c =
@@ -32,7 +32,7 @@ returns-in-Refused c =
     let rest : List ℕ = drop c.loop-k.at c.args.packed.now in
     let args = c.args in
     record {
-      passed = refusing (rows_faults args.packed.now args.rows args.row_bytes) tt (rw (rows_turned args.packed.now args.rows args.row_bytes c.turns-all.ensures) at (rows-first c.loop-k.invariant c.loop-k-test.true (declined used_outcome (row_faults rest args.row_bytes) (used rest args.row_bytes) (measured (goal.at.returns-in-Refused c).After-row_used) c.in-Refused.is refl)));
+      passed = refusing (rows_faults args.packed.now args.rows args.row_bytes) tt (rw (rows_turned args.packed.now args.rows args.row_bytes c.turns-all.ensures) at (rows-first c.loop-k.invariant c.loop-k-test.true (declined outcome (row_faults rest args.row_bytes) (used rest args.row_bytes) (measured (goal.at.returns-in-Refused c).After-row_used) c.in-Refused.is refl)));
     }
 
 pub overflow_add-at : goal.overflow_add-at

@@ -3,9 +3,9 @@ use mathlib.Core.Path.{◌≡◌, refl, sym, ◌∙◌}
 use mathlib.Core.Bool.{true}
 use mathlib.Core.List.{List}
 use lib.ListN.{length}
-use Rattle.answer.specs.Outcome.{Fault}
+use Rattle.answer.specs.Outcome.{Fault, outcome}
 use Rattle.answer.proofs.Promised.{refuses}
-use Rattle.packbits.specs.Plans.{Planned, plan_of, keeps, plan_faults, packed_outcome}
+use Rattle.packbits.specs.Plans.{Planned, plan_of, keeps, plan_faults}
 use Rattle.packbits.specs.Parts.{plan_length, room_faults}
 use Rattle.packbits.proofs.Putting.{plan-first}
 use Rattle.laws.proofs.Faults.{declined}
@@ -17,4 +17,4 @@ returns-in-Refused c =
     let faults : List Fault = plan_faults c.args.row.now c.args.kinds.now c.args.lengths.now c.args.out.now in
     let paired : length c.args.kinds.now ≡ length c.args.lengths.now = c.if-kinds-lengths.false in
     let kept : keeps c.args.row.now plan ≡ true = sym c.check_plan.ensures ∙ c.if-not-check_plan.false in
-    refuses faults _ _ _ (plan-first c.args.row.now c.args.kinds.now c.args.lengths.now c.args.out.now paired kept (declined packed_outcome (room_faults (length c.args.out.now) plan) (plan_length plan) c.plan_length.ensures c.in-Refused.is refl))
+    refuses faults _ _ _ (plan-first c.args.row.now c.args.kinds.now c.args.lengths.now c.args.out.now paired kept (declined outcome (room_faults (length c.args.out.now) plan) (plan_length plan) c.plan_length.ensures c.in-Refused.is refl))

@@ -7,8 +7,7 @@ use mathlib.Core.List.{[], ◌∷◌}
 use native.Mathlib.Omega.{arith}
 use lib.Dec.{ltb}
 use lib.ListN.{take}
-use Rattle.answer.specs.Outcome.{Step, truncated}
-use Rattle.answer.specs.declared.Done.{Done}
+use Rattle.answer.specs.Outcome.{Step, truncated, Done}
 use Rattle.answer.proofs.Promised.{sound-here, step-sound, step-refused, step-on}
 use Rattle.layout.specs.Layout.{one_two_eight}
 use Rattle.layout.proofs.Accepted.{one_two_eight_lem, up_to_eight}

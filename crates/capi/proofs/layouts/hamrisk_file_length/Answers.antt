@@ -1,9 +1,9 @@
 -- `hamrisk_file_length` meets its contract: a layout that is refused is refused by `file_length` too, and the record that is handed on is the
 -- completed one, so that what is promised of its length is the call's promise. Assumes nothing.
+use Rattle.std.specs.Prelude.{Err}
 use mathlib.Core.Path.{refl, ◌∙◌}
+use Rattle.answer.specs.Outcome.{Answer}
 use Rattle.layout.specs.declared.RasterLayout.{RasterLayout}
-use Rattle.files.specs.declared.Written.{Written}
-use Rattle.files.specs.declared.Written.TheVariants as WrittenIs
 use Rattle.files.specs.File.{Measured}
 use Rattle.capi.specs.OnLayouts.{fields_of}
 use Rattle.capi.proofs.Telling.{lent_as}
@@ -15,7 +15,7 @@ returns-in-Refused c =
     let a = c.args in
     record {
       served = λ e. record {
-        answer = WrittenIs.Refused c.in-Refused.kind;
+        answer = Err c.in-Refused.kind;
         allowed = measure_refused (fields_of a.layout.now) (c.asked.ensures.served e) c.in-Refused.is a.rows_per_strip;
         number_is = c.number.ensures;
         value-is = refl;
@@ -27,6 +27,6 @@ pub returns-in-Done : goal.returns-in-Done
 returns-in-Done c =
     let a = c.args in
     record {
-      served = λ e. lent_as c.length_of.ensures (handed_on (fields_of a.layout.now) (c.asked.ensures.served e) (λ (l : RasterLayout) (w : Written). Measured l a.rows_per_strip w) c.file_length.result c.in-Done.is c.file_length.ensures);
+      served = λ e. lent_as c.length_of.ensures (handed_on (fields_of a.layout.now) (c.asked.ensures.served e) (λ (l : RasterLayout) (w : Answer ℕ). Measured l a.rows_per_strip w) c.file_length.result c.in-Done.is c.file_length.ensures);
       unserved = λ e. flag_never_done c.asked.ensures e c.in-Done.is;
     }

@@ -1,10 +1,11 @@
 -- `hamrisk_index` meets its contract: a layout that is refused is refused by `index` too, and the record that is handed on is the
 -- completed one, so that what `place_of` promises of it is the call's promise. Assumes nothing.
+use Rattle.std.specs.Prelude.{Err}
 use Prim.Native.Nat.{ℕ}
 use mathlib.Core.Path.{refl, ◌∙◌}
+use Rattle.answer.specs.Outcome.{place_outcome}
 use Rattle.layout.specs.declared.RasterLayout.{RasterLayout}
-use Rattle.layout.specs.declared.Place.TheVariants as PlaceIs
-use Rattle.layout.specs.Layout.{Indexed, place_outcome}
+use Rattle.layout.specs.Layout.{Indexed}
 use Rattle.capi.specs.Told.{Lent}
 use Rattle.capi.specs.OnLayouts.{fields_of}
 use Rattle.capi.proofs.OnLayouts.{index_refused, handed_on, flag_refused, flag_never_done}
@@ -15,7 +16,7 @@ returns-in-Refused c =
     let a = c.args in
     record {
       served = λ e. record {
-        answer = PlaceIs.Refused c.in-Refused.kind;
+        answer = Err c.in-Refused.kind;
         allowed = index_refused (fields_of a.layout.now) (c.asked.ensures.served e) c.in-Refused.is a.k;
         number_is = c.number.ensures;
         value-is = refl;

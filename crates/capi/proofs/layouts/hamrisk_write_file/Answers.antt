@@ -1,10 +1,10 @@
 -- `hamrisk_write_file` meets its contract: a layout that is refused is refused by `write_file` too, and the record that is handed on is the
 -- completed one, so that the promise of file writing is the call's. Assumes nothing.
+use Rattle.std.specs.Prelude.{Err}
 use Prim.Native.Nat.{ℕ}
 use mathlib.Core.Path.{refl, ◌∙◌}
 use mathlib.Core.List.{List}
 use Rattle.layout.specs.declared.RasterLayout.{RasterLayout}
-use Rattle.files.specs.declared.Written.TheVariants as WrittenIs
 use Rattle.files.specs.File.{FileWritten}
 use Rattle.capi.specs.OnLayouts.{fields_of}
 use Rattle.capi.proofs.Telling.{lent_as}
@@ -16,7 +16,7 @@ returns-in-Refused c =
     let a = c.args in
     record {
       served = λ e. record {
-        answer = WrittenIs.Refused c.in-Refused.kind;
+        answer = Err c.in-Refused.kind;
         allowed = file_refused (fields_of a.layout.now) (c.asked.ensures.served e) c.in-Refused.is a.rows_per_strip a.planes.now a.out.now;
         number_is = c.number.ensures;
         value-is = refl;

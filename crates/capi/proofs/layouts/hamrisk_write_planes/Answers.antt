@@ -1,9 +1,9 @@
 -- `hamrisk_write_planes` meets its contract: a layout that is refused is refused by plane writing too, and the record that is handed on is the
 -- completed one, so that the promise of plane writing is the call's. Assumes nothing.
+use Rattle.std.specs.Prelude.{Err}
 use Prim.Native.Nat.{ℕ}
 use mathlib.Core.Path.{refl, ◌∙◌}
 use mathlib.Core.List.{List}
-use Rattle.answer.specs.declared.Done.TheVariants as DoneIs
 use Rattle.layout.specs.declared.RasterLayout.{RasterLayout}
 use Rattle.pixels.specs.Planes.{Written}
 use Rattle.capi.specs.OnLayouts.{fields_of}
@@ -15,7 +15,7 @@ returns-in-Refused c =
     let a = c.args in
     record {
       served = λ e. record {
-        answer = DoneIs.Refused c.in-Refused.kind;
+        answer = Err c.in-Refused.kind;
         allowed = write_refused (fields_of a.layout.now) (c.asked.ensures.served e) c.in-Refused.is a.picture.now a.planes.now;
         number_is = c.number.ensures;
       };

@@ -1,8 +1,7 @@
 -- `directory::strips::check_turn` meets its contract: length, then room, then the rows of the part that is there. Assumes nothing.
 use Prim.Native.Nat.{ℕ, ◌*◌, ◌+◌, ◌-◌, ◌≤◌}
 use Rattle.answer.proofs.Promised.{sound-here, sound_rest, step-on, step-refused, step-sound}
-use Rattle.answer.specs.Outcome.{Step, pick}
-use Rattle.answer.specs.declared.Done.{Done}
+use Rattle.answer.specs.Outcome.{Step, pick, Done}
 use Rattle.directory.specs.Page.{packed_faults, part_faults, smaller, strip_faults, strip_length, strip_place, strip_rows}
 use Rattle.directory.specs.declared.strips.Strips.{Strips}
 use Rattle.packbits.specs.Rows.{rows_faults}

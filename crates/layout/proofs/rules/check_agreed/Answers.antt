@@ -2,8 +2,7 @@
 use mathlib.Core.Path.{◌≡◌}
 use mathlib.Core.Bool.{Bool, not}
 use mathlib.Core.List.{[], ◌∷◌}
-use Rattle.answer.specs.Outcome.{Step, invalid}
-use Rattle.answer.specs.declared.Done.{Done}
+use Rattle.answer.specs.Outcome.{Step, invalid, Done}
 use Rattle.layout.proofs.rules.check_agreed.Goals as goal
 
 -- a rule that a call looked for

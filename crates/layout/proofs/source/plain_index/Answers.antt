@@ -6,9 +6,8 @@ use native.Mathlib.Nat.{le-mul_of_pos_right, mul_comm}
 use Prim.Native.Nat.{ℕ, ◌+◌, ◌*◌, ◌/◌, ◌%◌, ◌<◌}
 use mathlib.Core.Path.{◌≡◌, ap, ◌∙◌}
 use mir.Facts.{Fits-below}
-use Rattle.answer.specs.Outcome.{done, next, none}
+use Rattle.answer.specs.Outcome.{done, next, none, place_outcome}
 use Rattle.answer.proofs.Promised.{sound-done}
-use Rattle.words.specs.Promises.{place_outcome}
 use Rattle.layout.specs.Layout.{byte_limit, pixel_of, byte_of, sample_index, plain_index}
 use Rattle.layout.proofs.Accepted.{up_to_eight}
 use Rattle.layout.proofs.Sizes.{bytes-few}
