@@ -20,14 +20,6 @@ pub record Swapping (raw : List ℕ) (width : ℕ) (old : List ℕ) (at : ℕ) (
 pub begun : (raw : List ℕ) (width : ℕ) (old : List ℕ) → Swapping raw width old (0 * width) old
 begun raw width old = rw (zero-mul width) (record { inside = omega arith; groups = zero-mod width; same = refl; so_far = refl })
 
--- where a group begins, and that the groups are all
-module _ {raw : List ℕ} {width : ℕ} {old : List ℕ} (fits : SwapFits raw width old) where
-  pub begins : (n : ℕ) → n < length raw / width → n * width < length raw
-  begins n h = omega (arith, mul-le-mul_right width h, suc-mul n width, div-add-mod' (length raw) width, fits.some)
-
-  pub all_groups : length raw / width * width ≡ length raw
-  all_groups = omega (arith, div-add-mod' (length raw) width, fits.groups)
-
 module _ {raw : List ℕ} {width : ℕ} {old : List ℕ} {at : ℕ} {out : List ℕ} (fits : SwapFits raw width old) (is : Swapping raw width old at out) where
   pub room : at < length raw → at + width ≤ length raw
   room l = group_room width (length raw) at fits.groups is.groups l
