@@ -11,7 +11,7 @@ use lib.ListN.{length, get_or, take, drop, length-drop, length-append}
 use lib.Seq.{get_or-drop, drop-drop, length-take-le, take_all}
 use lib.Dec.{eqb, ltb, leb}
 use Rattle.answer.specs.declared.Refusal.TheVariants.{Invalid, Truncated}
-use Rattle.answer.specs.Outcome.{Fault, Sound, none, next, First, here, pick, truncated, fault_of, Step, Done}
+use Rattle.answer.specs.Outcome.{Sound, none, next, First, here, pick, fault_of, Step, Done}
 use Rattle.answer.proofs.Promised.{refusing, first_more, sound-front, sound_back, sound-here, sound_rest}
 use Rattle.answer.specs.Table.{table}
 use Rattle.answer.proofs.Filling.{length-table}
@@ -176,6 +176,19 @@ module _ {packed : List ℕ} {n at left : ℕ} (l : Looked packed n at left) whe
         past = past_more (packet_faults p) (rw next at l.past) s;
         taken = l.taken ∙ ap (λ (ps : List Packet). at + taken_by ps) next ∙ ap (λ (k : ℕ). at + (takes k + taken_by (packets (begun packed (at + takes h) (left - fills h))))) (header_at packed at left) ∙ sym (add_assoc at (takes h) _);
       }
+
+-- the same of what its first byte says
+module _ (packed : List ℕ) (at left : ℕ) {header : Header} (is : header ≡ header_of (get_or packed at 0)) (s : Sound (packet_faults (begun packed at left))) where
+  read : Kind (get_or packed at 0) (header_fills header) (header_takes header)
+  read = rw is (said (get_or packed at 0))
+
+  pub fits_said : (at < length packed) × (0 < header_takes header) × (header_fills header ≤ left) × (at + header_takes header ≤ length packed)
+  fits_said =
+      let fit = fits-at packed at left s in
+      (fit.inside, rw read.takes_so at fit.some, rw read.fills_so at fit.passes, rw read.takes_so at fit.whole)
+
+  pub looked_said : {n : ℕ} → Looked packed n at left → 0 < left → Looked packed n (at + header_takes header) (left - header_fills header)
+  looked_said l more = rw (read.takes_so, read.fills_so) at (looked_on l more s)
 
 pub looked_end : {packed : List ℕ} {n at left : ℕ} → Looked packed n at left → left ≡ 0 → Sound (row_faults packed n) × (used packed n ≡ at)
 looked_end {packed} {n} {at} {left} l e =
@@ -369,16 +382,16 @@ module _ {packed row₀ row : List ℕ} {at from : ℕ} (fill : Filling packed r
 
     -- where the packet ends, once its first byte was read
     module _ {header : Header} (is : header ≡ header_of (get_or packed at 0)) where
-      read : Kind (get_or packed at 0) (header_fills header) (header_takes header)
-      read = rw is (said (get_or packed at 0))
+      read-now : Kind (get_or packed at 0) (header_fills header) (header_takes header)
+      read-now = rw is (said (get_or packed at 0))
 
       pub ends : (at + header_takes header ≤ length packed) × (from + header_fills header ≤ length row)
       ends =
           let fit = packet_fits in
-          (rw (← read.takes_so) fit.whole, omega (arith, fit.passes, read.fills_so, fill.upto.same))
+          (rw (← read-now.takes_so) fit.whole, omega (arith, fit.passes, read-now.fills_so, fill.upto.same))
 
       pub takes_more : 0 < header_takes header
-      takes_more = rw read.takes_so at (takes-some (get_or packed at 0))
+      takes_more = rw read-now.takes_so at (takes-some (get_or packed at 0))
 
       pub few : header_fills header ≤ 128
       few = rw is (header_few (get_or packed at 0))
@@ -390,9 +403,9 @@ module _ {packed row₀ row : List ℕ} {at from : ℕ} (fill : Filling packed r
           let t = header_takes header in
           let bytes = header_bytes packed at left header in
           let holds : packet_bytes p ≡ bytes = rw is (bytes_said packed at left) in
-          let next : packets p ≡ p ∷ packets (begun packed (at + t) (left - f)) = rw (read.fills_so, read.takes_so) at (next-at packed at left some_left packet_sound) in
+          let next : packets p ≡ p ∷ packets (begun packed (at + t) (left - f)) = rw (read-now.fills_so, read-now.takes_so) at (next-at packed at left some_left packet_sound) in
           let rest : left - f ≡ length row₀ - (from + f) = omega arith in
-          let long : length bytes ≡ f = ap length (sym holds) ∙ length_packet p (fits p packet_sound) ∙ ap fills (header_at packed at left) ∙ read.fills_so in
+          let long : length bytes ≡ f = ap length (sym holds) ∙ length_packet p (fits p packet_sound) ∙ ap fills (header_at packed at left) ∙ read-now.fills_so in
           let on : bytes_of (packets p) ≡ bytes ++ bytes_of (packets (begun packed (at + t) (left - f))) = ap bytes_of next ∙ ap (λ (l : List ℕ). l ++ bytes_of (packets (begun packed (at + t) (left - f)))) holds in
           record {
             inside = ends.0;

@@ -1,6 +1,7 @@
 -- `packbits::reading::check_packet` meets its contract: the three faults in their order. Assumes nothing.
 use Rattle.std.proofs.Common.{refl, arith}
-use Rattle.answer.proofs.Promised.{step-refused, step-on}
+use Rattle.answer.proofs.Promised.{step-on}
+use Rattle.answer.proofs.Handed.{step-handed}
 use Rattle.packbits.proofs.Packets.{missing, there}
 use Rattle.packbits.proofs.reading.check_packet.Goals as goal
 
@@ -11,7 +12,7 @@ returns-then-there-eq0 c =
 pub returns-in_err-fault : goal.returns-in_err-fault
 returns-in_err-fault c =
     let args = c.args in
-    let x : ℕ = c.from_residual.ensures in ?
+    there args.packed.now args.at args.left (omega (arith, c.if-there-eq0.false)) c.from-header.ensures c.fills.ensures refl (step-handed _ c.fault.ensures c.in_err-fault.was c.from_residual.ensures)
 
 pub returns : goal.returns
 returns c =

@@ -1,5 +1,5 @@
 -- `packbits::reading::fill_row` meets its contract: each packet goes where the one before it ended. Assumes nothing.
-use Rattle.std.proofs.Common.{◌≡◌, ◌+◌, ◌≤◌, ℕ, length, ◌-◌, ap, ◌∙◌, sym, get_or, arith}
+use Rattle.std.proofs.Common.{◌≡◌, ◌+◌, ◌≤◌, length, ap, ◌∙◌, sym, arith}
 use Rattle.packbits.specs.Parts.{header_fills, header_takes, Placed}
 use Rattle.packbits.proofs.Onward.{placed-none}
 use Rattle.packbits.proofs.Packets.{packet_fits, ends, few, takes_more, filling_on, header_bytes}
@@ -35,9 +35,9 @@ same c =
 placed : (c : Joined-header) → Placed c.loop-from.from (header_bytes c.args.packed.now c.loop-from.at 0 c.from-header.result) c.loop-from.row c.match-header.row
 placed c =
     elim c.match-header.branch [
-      in-Copies w ↦ rw (w.in-Copies.is, w.row-is) w.copy_bytes.ensures
-    | in-Rests w ↦ rw (w.in-Rests.is, w.row-is) (placed-none _ _)
-    | in-Repeats w ↦ rw (w.in-Repeats.is, w.row-is) w.repeat_byte.ensures
+      | in-Copies w ↦ rw (w.in-Copies.is, w.row-is) w.copy_bytes.ensures
+      | in-Rests w ↦ rw (w.in-Rests.is, w.row-is) (placed-none _ _)
+      | in-Repeats w ↦ rw (w.in-Repeats.is, w.row-is) w.repeat_byte.ensures
     ]
 
 pub loop-from-smaller : goal.loop-from-smaller
