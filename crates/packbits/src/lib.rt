@@ -53,7 +53,8 @@ pub fn check_rows(packed: &[u8], rows: usize, row_bytes: usize) -> Result<(), Re
 {
     let mut at: usize = 0;
     for _k in 0..turns(rows, row_bytes) {
-        at += row_used(&packed[at..], row_bytes)?;
+        let n = row_used(&packed[at..], row_bytes)?;
+        at += n;
     }
     fault(at != packed.len(), Refusal::Invalid)
 }
