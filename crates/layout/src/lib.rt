@@ -1,7 +1,7 @@
 // Layouts of pictures: what a caller says of one, what follows from it, whether it can be, and where a byte of the picture comes from.
 #![tactic(auto)]
 
-use answer::{ByteAt, Refusal, fault, first_of};
+use answer::{ByteAt, Refusal, fault};
 
 mod derived;
 mod rules;
@@ -44,9 +44,8 @@ pub struct RasterLayout {
 fn check_fields(f: Fields) -> Result<(), Refusal>
     ensures { Step (layout_faults f) result }
 {
-    let served = rules::check_served(f);
-    let agreed = rules::check_agreed(f);
-    first_of(served, agreed)?;
+    rules::check_served(f)?;
+    rules::check_agreed(f)?;
     rules::check_size(f)
 }
 

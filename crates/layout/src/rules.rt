@@ -4,7 +4,7 @@ ghost use Rattle.answer.specs.Outcome.{Sound, Step};
 ghost use Rattle.layout.specs.Layout.{eight_rule, alpha_rule, palette_rule, slots_rule, served_faults, agreed_faults, size_faults};
 
 use crate::Fields;
-use answer::{Refusal, fault, first_of};
+use answer::{Refusal, fault};
 
 // The largest width and height.
 const SIDE_LIMIT: usize = 16384;
@@ -16,21 +16,11 @@ const BYTE_LIMIT: usize = 1073741824;
 pub(crate) fn check_served(f: Fields) -> Result<(), Refusal>
     ensures { Step (served_faults f) result }
 {
-    let bytes = fault(
-        !((f.bytes == 1) | (f.bytes == 2) | (f.bytes == 8)),
-        Refusal::Unsupported,
-    );
-    let none = fault(f.ch == 0, Refusal::Unsupported);
-    let many = fault(4 < f.ch, Refusal::Unsupported);
-    let slots = fault(
-        !((f.slots == 1) | (f.slots == 2) | (f.slots == 8)),
-        Refusal::Unsupported,
-    );
-    let alpha = fault(2 < f.alpha, Refusal::Unsupported);
-    first_of(
-        bytes,
-        first_of(none, first_of(many, first_of(slots, alpha))),
-    )
+    fault(!matches!(f.bytes, 1 | 2 | 8), Refusal::Unsupported)?;
+    fault(f.ch == 0, Refusal::Unsupported)?;
+    fault(4 < f.ch, Refusal::Unsupported)?;
+    fault(!matches!(f.slots, 1 | 2 | 8), Refusal::Unsupported)?;
+    fault(2 < f.alpha, Refusal::Unsupported)
 }
 
 // Eight-byte samples are plain: one or three channels.
@@ -71,14 +61,12 @@ fn slots_rule(f: Fields) -> bool
 pub(crate) fn check_agreed(f: Fields) -> Result<(), Refusal>
     ensures { Step (agreed_faults f) result }
 {
-    let narrow = fault(f.w == 0, Refusal::Invalid);
-    let low = fault(f.h == 0, Refusal::Invalid);
-    let eight = fault(!eight_rule(f), Refusal::Invalid);
-    let alpha = fault(!alpha_rule(f), Refusal::Invalid);
-    let palette = fault(!palette_rule(f), Refusal::Invalid);
-    let slots = fault(!slots_rule(f), Refusal::Invalid);
-    let rules = first_of(eight, first_of(alpha, first_of(palette, slots)));
-    first_of(narrow, first_of(low, rules))
+    fault(f.w == 0, Refusal::Invalid)?;
+    fault(f.h == 0, Refusal::Invalid)?;
+    fault(!eight_rule(f), Refusal::Invalid)?;
+    fault(!alpha_rule(f), Refusal::Invalid)?;
+    fault(!palette_rule(f), Refusal::Invalid)?;
+    fault(!slots_rule(f), Refusal::Invalid)
 }
 
 // Step 3: what is too large. Within the first limit the product cannot wrap.

@@ -6,9 +6,9 @@ use Rattle.layout.proofs.check_record.Goals as goal
 
 pub complete-requires : goal.complete-requires
 complete-requires c =
-    step-sound c.check_fields.ensures c.in-Done.is
+    step-sound c.check_fields.ensures c.in_ok-check_fields.was
 
-pub returns-in-Done : goal.returns-in-Done
-returns-in-Done c =
+pub returns : goal.returns
+returns c =
     let compared : let l = c.args.l in c.agrees.result ≡ agreement l (completed l.fields) = let l = c.args.l in c.agrees.ensures ∙ ap (agreement l) c.complete.ensures in
-    let found = rw compared at c.fault.ensures in (step-on c.check_fields.ensures c.in-Done.is found).passed
+    let found = rw compared at c.fault.ensures in (step-on c.check_fields.ensures c.in_ok-check_fields.was found).passed
