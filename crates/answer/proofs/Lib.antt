@@ -1,4 +1,3 @@
 pub mod Promised
-pub mod Handed
 pub mod Filling
 pub mod Determined

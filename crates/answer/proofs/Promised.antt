@@ -1,6 +1,9 @@
 -- What every promise gives: one answer and one content of the buffer, which a refusal leaves as it was and success changes at its front alone;
 -- and of a list of faults: the refusal given is that of the first fault, and is given only then. Assumes nothing.
 use Rattle.std.specs.Prelude.{Ok, Err}
+use Prim.{Unit}
+use Rattle.std.specs.Result.{IsErrAnd, is_err}
+use Rattle.std.proofs.lemmas.Result.{err_from_is_err_and}
 use Prim.Native.Nat.{ℕ, zero, suc, ◌≤◌}
 use mathlib.Core.Path.{◌≡◌, refl, sym, ap, ◌∙◌}
 use mathlib.Core.Bool.{Bool, true, false}
@@ -120,6 +123,14 @@ passed fs a p e = done-sound fs tt tt (sym p ∙ ap outcome e)
 pub stopped : (fs : List Fault) (a : Done) (k : Refusal) → outcome a ≡ unless fs tt → a ≡ Err k → First fs (number k)
 stopped fs a k p e = refused_told fs tt k (sym (ap outcome e) ∙ p)
 
+pub no_error : (fs : List Fault) (a : Done) → outcome a ≡ unless fs tt → is_err a ≡ false → Sound fs
+no_error fs (Ok u) p e = passed fs (Ok u) p refl
+no_error fs (Err k) p e = absurd (let z : ◌≡◌ {A = ℕ} 0 1 = cc in omega arith)
+
+pub some_error : (fs : List Fault) (a : Done) → outcome a ≡ unless fs tt → is_err a ≡ true → (n : ℕ) × First fs n
+some_error fs (Ok u) p e = absurd (let z : ◌≡◌ {A = ℕ} 0 1 = cc in omega arith)
+some_error fs (Err k) p e = (number k, stopped fs (Err k) k p refl)
+
 -- with no fault in the first list the second decides
 pub sound_skip : {A : Type 0} {fs : List Fault} (gs : List Fault) (a : A) → Sound fs → unless (fs ++ gs) a ≡ unless gs a
 sound_skip gs a none = refl
@@ -221,3 +232,7 @@ step-refused {fs} gs p e = record { passed = refusing (fs ++ gs) tt (first_more 
 
 pub step-on : {fs gs : List Fault} {a b : Done} → Step fs a → a ≡ (Ok tt) → Step gs b → Step (fs ++ gs) b
 step-on {fs} {gs} p e q = record { passed = q.passed ∙ sym (sound_skip gs tt (step-sound p e)) }
+
+-- what the exit of a `?` answers: the refusal that it was handed
+pub handed_on : {A : Type 0} {k : Refusal} (r : Answer A) → IsErrAnd r (λ e. e ≡ k) → r ≡ Err k
+handed_on {A} {k} r e = let p = err_from_is_err_and r e in p.1 ∙ ap Err p.2

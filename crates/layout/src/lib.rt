@@ -7,6 +7,8 @@ mod derived;
 mod rules;
 mod source;
 
+use rules::{check_agreed, check_served, check_size};
+
 ghost use Rattle.std.specs.Prelude.{◌≡◌};
 ghost use Rattle.answer.specs.Outcome.{Step};
 ghost use Rattle.layout.specs.Layout.{layout_faults, agreement, LayoutChecked, RecordChecked, Indexed};
@@ -44,9 +46,9 @@ pub struct RasterLayout {
 fn check_fields(f: Fields) -> Result<(), Refusal>
     ensures { Step (layout_faults f) result }
 {
-    rules::check_served(f)?;
-    rules::check_agreed(f)?;
-    rules::check_size(f)
+    check_served(f)?;
+    check_agreed(f)?;
+    check_size(f)
 }
 
 // The full record of a picture, if there is one.

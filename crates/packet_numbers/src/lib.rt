@@ -151,8 +151,7 @@ pub fn piece(s: &mut [u64], bytes: &[u8], out: &mut [u8]) -> Result<usize, Refus
     let mut tail = tail_of(s[7]);
     let first: usize = 8;
     let end: usize = 72;
-    let answer = packets::lent_piece(plan, received, bytes, &mut tail, &mut s[first..end], out);
-    let n = answer?;
+    let n = packets::lent_piece(plan, received, bytes, &mut tail, &mut s[first..end], out)?;
     s[6] = (received + bytes.len()) as u64;
     s[7] = word_of(&tail);
     Ok(n)

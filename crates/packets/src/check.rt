@@ -111,17 +111,15 @@ pub(crate) fn passes(
     requires { (length tail.now ≡ 8) × (length sums.now ≡ 64) }
     ensures { result ≡ consistent (state (plan row_bytes channels width true predict true) received tail.now sums.now) }
 {
-    match samples::check_strip(0, row_bytes, channels, width) {
-        Err(_) => false,
-        Ok(()) => {
-            if 1073741824 < received {
-                return false;
-            }
-            if !tail_right(tail, feed::past(received, width)) {
-                return false;
-            }
-            let begun = begun_channels(predict, feed::whole(received % row_bytes, width), channels);
-            sums_right(sums, width, begun)
-        }
+    if samples::check_strip(0, row_bytes, channels, width).is_err() {
+        return false;
     }
+    if 1073741824 < received {
+        return false;
+    }
+    if !tail_right(tail, feed::past(received, width)) {
+        return false;
+    }
+    let begun = begun_channels(predict, feed::whole(received % row_bytes, width), channels);
+    sums_right(sums, width, begun)
 }

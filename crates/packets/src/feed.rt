@@ -56,7 +56,7 @@ fn in_row(plan: Plan, received: usize, place: usize, raw: &[u8], sums: &mut [u64
     ensures { WordsFed plan received raw.now sums.old out.old sums.new out.new }
 {
     let first = whole(place, plan.width) % plan.channels;
-    rows::resume_row(
+    let _ = rows::resume_row(
         raw,
         first,
         plan.channels,
@@ -78,7 +78,7 @@ fn from_row(plan: Plan, received: usize, raw: &[u8], sums: &mut [u64], out: &mut
 {
     let start: usize = 0;
     let rows = raw.len() - raw.len() % plan.row_bytes;
-    strips::convert(
+    let _ = strips::convert(
         &raw[start..rows],
         plan.row_bytes,
         plan.channels,
@@ -140,7 +140,7 @@ fn words(plan: Plan, received: usize, raw: &[u8], sums: &mut [u64], out: &mut [u
     if plan.predict {
         return predicted(plan, received, raw, sums, out);
     }
-    samples::reorder(raw, plan.width, plan.le, plan.out_le, out);
+    let _ = samples::reorder(raw, plan.width, plan.le, plan.out_le, out);
 }
 
 // Bytes from a word's start on.
@@ -176,7 +176,7 @@ fn word(plan: Plan, received: usize, raw: &[u8], sums: &mut [u64], out: &mut [u8
         let place = received % plan.row_bytes;
         return in_row(plan, received, place, raw, sums, out);
     }
-    samples::reorder(raw, plan.width, plan.le, plan.out_le, out);
+    let _ = samples::reorder(raw, plan.width, plan.le, plan.out_le, out);
 }
 
 // The word that was cut, if one was.

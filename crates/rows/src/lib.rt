@@ -54,7 +54,7 @@ fn transform_words(
             few::rows(raw, raw.len(), channels, width, le, out_le, &none, out)
         }
     } else {
-        samples::reorder(raw, width, le, out_le, out);
+        let _ = samples::reorder(raw, width, le, out_le, out);
     }
 }
 
@@ -138,7 +138,7 @@ pub fn transform_rows(
     if predict {
         every_row(raw, row_bytes, channels, width, le, out_le, forward, out);
     } else {
-        samples::reorder(raw, width, le, out_le, out);
+        let _ = samples::reorder(raw, width, le, out_le, out);
     }
     Ok(())
 }

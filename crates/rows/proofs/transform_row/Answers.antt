@@ -10,5 +10,5 @@ use Rattle.rows.proofs.transform_row.Goals as goal
 pub transform_words-requires : goal.transform_words-requires
 transform_words-requires c =
     let faults : List Fault = let args = c.args in convert_faults args.raw.now (one_row args.raw.now args.channels args.width) args.out.now in
-    let sound : Sound faults = passed faults c.checked.result c.checked.ensures c.in-Done.is in
+    let sound : Sound faults = passed faults c.checked.result c.checked.ensures c.in_ok-checked.was in
     row-served _ _ _ _ (strip-served _ _ _ sound)

@@ -10,22 +10,22 @@ use Rattle.samples.proofs.Strips.{good_checked, bytes-words}
 use Rattle.rows.specs.Row.{StripServed}
 use Rattle.rows.proofs.Rows.{strip-served}
 use Rattle.rows.proofs.Leading.{unpredicted}
-use Rattle.rows.proofs.transform_rows.Goals.{In-Done}
+use Rattle.rows.proofs.transform_rows.Goals.{In_ok-checked}
 use Rattle.rows.proofs.transform_rows.Goals as goal
 
 -- the check found no fault
-sound : (c : In-Done) → let faults : List Fault = let args = c.args in convert_faults args.raw.now (strip args.row_bytes args.channels args.width) args.out.now in Sound (faults)
+sound : (c : In_ok-checked) → let faults : List Fault = let args = c.args in convert_faults args.raw.now (strip args.row_bytes args.channels args.width) args.out.now in Sound (faults)
 sound c =
     let faults : List Fault = let args = c.args in convert_faults args.raw.now (strip args.row_bytes args.channels args.width) args.out.now in
-    passed faults c.checked.result c.checked.ensures c.in-Done.is
+    passed faults c.checked.result c.checked.ensures c.in_ok-checked.was
 
-served_here : (c : In-Done) → let args = c.args in StripServed args.raw.now (strip args.row_bytes args.channels args.width) args.out.now
+served_here : (c : In_ok-checked) → let args = c.args in StripServed args.raw.now (strip args.row_bytes args.channels args.width) args.out.now
 served_here c =
     strip-served _ _ _ (sound c)
 
 pub every_row-requires : goal.every_row-requires
 every_row-requires c =
-    served_here (goal.at.every_row-requires c).In-Done
+    served_here (goal.at.every_row-requires c).In_ok-checked
 
 pub returns-else-predict : goal.returns-else-predict
 returns-else-predict c =
@@ -33,7 +33,7 @@ returns-else-predict c =
     let faults : List Fault = let args = c.args in convert_faults args.raw.now (strip args.row_bytes args.channels args.width) args.out.now in
     let args = c.args in
     let g = strip args.row_bytes args.channels args.width in
-    let fits = served_here (goal.at.returns-else-predict c).In-Done in
+    let fits = served_here (goal.at.returns-else-predict c).In_ok-checked in
     rw c.if-predict.false
-    (finishes faults tt (length args.raw.now) _ _ _ (sound (goal.at.returns-else-predict c).In-Done)
+    (finishes faults tt (length args.raw.now) _ _ _ (sound (goal.at.returns-else-predict c).In_ok-checked)
     (unpredicted args.raw.now bytes g args.le args.out_le args.forward args.out.now c.reorder.result _ (not-false _ (sound-here fits.sound)) (bytes-words _ g (good_checked _ g fits.sound)) fits.room c.reorder.ensures))
