@@ -24,37 +24,41 @@ pub(crate) fn check_served(f: Fields) -> Result<(), Refusal>
 }
 
 // Eight-byte samples are plain: one or three channels.
+#[tactic(auto, unfolding(crate::specs::Layout::eight_rule))]
 fn eight_rule(f: Fields) -> bool
     ensures { result ≡ eight_rule f }
 {
-    (f.bytes != 8)
-        | (!f.white & !f.palette & (f.alpha == 0) & (f.slots == 1) & ((f.ch == 1) | (f.ch == 3)))
+    f.bytes != 8
+        || (!f.white && !f.palette && f.alpha == 0 && f.slots == 1 && matches!(f.ch, 1 | 3))
 }
 
 // Alpha stands beside one or three channels of one byte.
+#[tactic(auto, unfolding(crate::specs::Layout::alpha_rule))]
 fn alpha_rule(f: Fields) -> bool
     ensures { result ≡ alpha_rule f }
 {
-    (f.alpha == 0) | ((f.bytes == 1) & ((f.ch == 2) | (f.ch == 4)) & !f.palette)
+    f.alpha == 0 || (f.bytes == 1 && matches!(f.ch, 2 | 4) && !f.palette)
 }
 
 // A palette gives three channels of one byte, interleaved.
+#[tactic(auto, unfolding(crate::specs::Layout::palette_rule))]
 fn palette_rule(f: Fields) -> bool
     ensures { result ≡ palette_rule f }
 {
     !f.palette
-        | ((f.ch == 3)
-            & (f.bytes == 1)
-            & ((f.slots == 1) | (f.slots == 2) | (f.slots == 8))
-            & !f.separate
-            & (f.alpha == 0))
+        || (f.ch == 3
+            && f.bytes == 1
+            && matches!(f.slots, 1 | 2 | 8)
+            && !f.separate
+            && f.alpha == 0)
 }
 
 // Without a palette several samples share a byte in bilevel pictures alone.
+#[tactic(auto, unfolding(crate::specs::Layout::slots_rule))]
 fn slots_rule(f: Fields) -> bool
     ensures { result ≡ slots_rule f }
 {
-    f.palette | ((f.slots == 1) | (f.slots == 8) & (f.ch == 1) & (f.bytes == 1) & (f.alpha == 0))
+    f.palette || f.slots == 1 || (f.slots == 8 && f.ch == 1 && f.bytes == 1 && f.alpha == 0)
 }
 
 // Step 2: what contradicts itself.
@@ -70,18 +74,12 @@ pub(crate) fn check_agreed(f: Fields) -> Result<(), Refusal>
 }
 
 // Step 3: what is too large. Within the first limit the product cannot wrap.
+#[tactic(auto, unfolding(crate::specs::Layout::output_length))]
 pub(crate) fn check_size(f: Fields) -> Result<(), Refusal>
     requires { Sound (served_faults f) }
     ensures { Step (size_faults f) result }
 {
-    if SIDE_LIMIT < f.w {
-        return Err(Refusal::Limit);
-    }
-    if SIDE_LIMIT < f.h {
-        return Err(Refusal::Limit);
-    }
-    if BYTE_LIMIT < f.w * f.h * f.ch * f.bytes {
-        return Err(Refusal::Limit);
-    }
-    Ok(())
+    fault(SIDE_LIMIT < f.w, Refusal::Limit)?;
+    fault(SIDE_LIMIT < f.h, Refusal::Limit)?;
+    fault(BYTE_LIMIT < f.w * f.h * f.ch * f.bytes, Refusal::Limit)
 }
