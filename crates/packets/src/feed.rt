@@ -31,10 +31,8 @@ pub(crate) fn past(n: usize, width: usize) -> usize
 fn clear(sums: &mut [u64])
     ensures { Cleared sums.old sums.new }
 {
-    let mut i: usize = 0;
-    while i < sums.len() {
-        sums[i] = 0;
-        i += 1;
+    for sum in sums.iter_mut() {
+        *sum = 0;
     }
 }
 
@@ -43,10 +41,8 @@ fn hold(bytes: &[u8], fill: usize, tail: &mut [u8])
     requires { HoldFits bytes.now fill tail.old }
     ensures { Held bytes.now fill tail.old tail.new }
 {
-    let mut i: usize = 0;
-    while i < bytes.len() {
-        tail[fill + i] = bytes[i];
-        i += 1;
+    for (i, byte) in bytes.iter().enumerate() {
+        tail[fill + i] = *byte;
     }
 }
 
