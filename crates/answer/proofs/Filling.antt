@@ -130,6 +130,11 @@ length_part a e l h k = simp (length-take, length-drop) (omega arith)
 pub part_at : (a e : ℕ) (l : List ℕ) (i : ℕ) → i < e - a → get_or (part a e l) i 0 ≡ get_or l (a + i) 0
 part_at a e l i h = get_or-take (e - a) (drop a l) i 0 h ∙ get_or-drop a l i 0
 
+-- a part is the table of its elements
+pub part_table : (a e : ℕ) (l : List ℕ) → a ≤ e → e ≤ length l → part a e l ≡ table (e - a) (λ i. get_or l (a + i) 0)
+part_table a e l on inside =
+    ext_get_or 0 (part a e l) _ (length_part a e l on inside ∙ sym (length-table (e - a) _)) (λ i h. let below : i < e - a = omega (arith, h, length_part a e l on inside) in part_at a e l i below ∙ sym (table_at (e - a) _ i below))
+
 pub part_filled : (f : ℕ → ℕ) (a e : ℕ) (old out new : List ℕ) → a ≤ e → out ≡ filled a f old → new ≡ table (e - a) (λ k. f (a + k)) → take a out ++ (new ++ drop (e - a) (drop a out)) ≡ filled e f old
 part_filled f a e old out new h s is =
     let whole_way : a + (e - a) ≡ e = omega arith in

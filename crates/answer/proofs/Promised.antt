@@ -2,7 +2,7 @@
 -- and of a list of faults: the refusal given is that of the first fault, and is given only then. Assumes nothing.
 use Rattle.std.specs.Prelude.{Ok, Err}
 use Prim.{Unit}
-use Rattle.std.specs.Result.{IsErrAnd}
+use Rattle.std.specs.Result.{IsErrAnd, is_err}
 use Rattle.std.proofs.lemmas.Result.{err_from_is_err_and}
 use Prim.Native.Nat.{ℕ, zero, suc, ◌≤◌}
 use mathlib.Core.Path.{◌≡◌, refl, sym, ap, ◌∙◌}
@@ -122,6 +122,14 @@ passed fs a p e = done-sound fs tt tt (sym p ∙ ap outcome e)
 
 pub stopped : (fs : List Fault) (a : Done) (k : Refusal) → outcome a ≡ unless fs tt → a ≡ Err k → First fs (number k)
 stopped fs a k p e = refused_told fs tt k (sym (ap outcome e) ∙ p)
+
+pub no_error : (fs : List Fault) (a : Done) → outcome a ≡ unless fs tt → is_err a ≡ false → Sound fs
+no_error fs (Ok u) p e = passed fs (Ok u) p refl
+no_error fs (Err k) p e = absurd (let z : ◌≡◌ {A = ℕ} 0 1 = cc in omega arith)
+
+pub some_error : (fs : List Fault) (a : Done) → outcome a ≡ unless fs tt → is_err a ≡ true → (n : ℕ) × First fs n
+some_error fs (Ok u) p e = absurd (let z : ◌≡◌ {A = ℕ} 0 1 = cc in omega arith)
+some_error fs (Err k) p e = (number k, stopped fs (Err k) k p refl)
 
 -- with no fault in the first list the second decides
 pub sound_skip : {A : Type 0} {fs : List Fault} (gs : List Fault) (a : A) → Sound fs → unless (fs ++ gs) a ≡ unless gs a

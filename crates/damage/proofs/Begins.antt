@@ -39,47 +39,45 @@ filled-since from old front back room zeros ones =
     let after = table-all _ (length old - from) 1 (λ k. f (from + k)) back ones (length_part from (length old) (halfway from old front) room (omega arith)) (λ k h. ap mark_byte (since-later from (from + k) (omega arith))) in
     both_filled f from old front back room before after
 
--- the samples from `from` on that were found damaged, `left` of the channels not looked at yet; `at` is where the next begins
-pub record Struck (damage : List ℕ) (channels width from at left : ℕ) : Type 0 where
-  pub fewer : left ≤ channels
-  pub place : at ≡ (from + (channels - left)) * width
-  pub struck_so_far : (n : ℕ) → from ≤ n → n < from + (channels - left) → struck width damage n ≡ true
+-- the samples from `from` on that were found damaged, one of each channel looked at; `at` is where the next begins
+pub record Struck (damage : List ℕ) (width from at looked : ℕ) : Type 0 where
+  pub place : at ≡ (from + looked) * width
+  pub struck_so_far : (n : ℕ) → from ≤ n → n < from + looked → struck width damage n ≡ true
 
-pub struck-none : (damage : List ℕ) (channels width first : ℕ) → Struck damage channels width (first / width) (first - first % width) channels
-struck-none damage channels width first =
-    let none : first / width + (channels - channels) ≡ first / width = omega arith in
-    record { fewer = omega arith; place = rw none (omega (arith, div-add-mod' first width)); struck_so_far = λ n h l. absurd (omega arith) }
+pub struck-none : (damage : List ℕ) (width first : ℕ) → Struck damage width (first / width) (first - first % width) 0
+struck-none damage width first =
+    let none : first / width + 0 ≡ first / width = omega arith in
+    record { place = rw none (omega (arith, div-add-mod' first width)); struck_so_far = λ n h l. absurd (omega arith) }
 
-module _ {damage : List ℕ} {channels width from at left : ℕ} (is : Struck damage channels width from at left) where
+module _ {damage : List ℕ} {width from at looked : ℕ} (is : Struck damage width from at looked) where
   -- a whole sample is there
   pub struck-room : length damage % width ≡ 0 → at < length damage → at + width ≤ length damage
-  struck-room whole more = group_room width (length damage) at whole (rw is.place (mul-mod_left (from + (channels - left)) width)) more
+  struck-room whole more = group_room width (length damage) at whole (rw is.place (mul-mod_left (from + looked) width)) more
 
-  pub struck_turned : 0 < left → struck_at width damage at ≡ true → Struck damage channels width from (at + width) (left - 1)
-  struck_turned more hit =
-      let next : from + (channels - (left - 1)) ≡ suc (from + (channels - left)) = omega (arith, is.fewer) in
+  pub struck_turned : struck_at width damage at ≡ true → Struck damage width from (at + width) (looked + 1)
+  struck_turned hit =
+      let next : from + (looked + 1) ≡ suc (from + looked) = omega arith in
       record {
-        fewer = omega (arith, is.fewer);
-        place = rw (next, suc-mul (from + (channels - left)) width) (omega (arith, is.place));
-        struck_so_far = λ n h l. by n h (omega arith) (dec_lt n (from + (channels - left)));
+        place = rw (next, suc-mul (from + looked) width) (omega (arith, is.place));
+        struck_so_far = λ n h l. by n h (omega arith) (dec_lt n (from + looked));
       }
     where
-      by : (n : ℕ) → from ≤ n → n < suc (from + (channels - left)) → Dec (n < from + (channels - left)) → struck width damage n ≡ true
+      by : (n : ℕ) → from ≤ n → n < suc (from + looked) → Dec (n < from + looked) → struck width damage n ≡ true
       by n h l (yes before) = is.struck_so_far n h before
-      by n h l (no after) = let last : n ≡ from + (channels - left) = omega arith in rw (last, ← is.place) hit
+      by n h l (no after) = let last : n ≡ from + looked = omega arith in rw (last, ← is.place) hit
 
   -- at the row's end, and with every channel looked at
-  pub struck_end : length damage ≤ at → PixelStruck damage channels width from
-  struck_end l n h below inside = by (dec_lt n (from + (channels - left)))
+  pub struck_end : (channels : ℕ) → length damage ≤ at → PixelStruck damage channels width from
+  struck_end channels l n h below inside = by (dec_lt n (from + looked))
     where
-      by : Dec (n < from + (channels - left)) → struck width damage n ≡ true
+      by : Dec (n < from + looked) → struck width damage n ≡ true
       by (yes before) = is.struck_so_far n h before
       by (no after) =
-          let late : from + (channels - left) ≤ n = omega arith in
+          let late : from + looked ≤ n = omega arith in
           absurd (omega (arith, mul-le-mul_right width late, is.place))
 
-  pub struck-all : left ≡ 0 → PixelStruck damage channels width from
-  struck-all none n h below inside = is.struck_so_far n h (omega arith)
+  pub struck-all : (channels : ℕ) → channels ≤ looked → PixelStruck damage channels width from
+  struck-all channels all n h below inside = is.struck_so_far n h (omega arith)
 
 -- a row has as many marks as samples
 pub row-marks : {damage : List ℕ} {channels width : ℕ} {old : List ℕ} → MarksFit damage channels width old → length damage / width ≡ length old

@@ -1,11 +1,10 @@
 -- The promise of this crate allows one outcome. Assumes nothing.
-use Rattle.std.specs.Prelude.{Ok, Err}
-use mathlib.Core.Path.{◌≡◌, refl, ap}
+use mathlib.Core.Path.{◌≡◌}
 use mathlib.Core.Bool.{Bool}
 use mathlib.Core.List.{List}
 use Prim.Native.Nat.{ℕ}
-use Rattle.answer.specs.Outcome.{Outcome, done, refused, outcome, Answer}
-use Rattle.answer.proofs.Promised.{kind, kind-number, once, determined, answer_once}
+use Rattle.answer.specs.Outcome.{outcome, Answer}
+use Rattle.answer.proofs.Promised.{determined, answer_once}
 use Rattle.samples.specs.Sample.{Strip}
 use Rattle.damage.specs.Promises.{Marked}
 

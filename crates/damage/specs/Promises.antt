@@ -1,7 +1,7 @@
 -- What `marks` promises (rule 4.4): the order of refusals; the marks and their count; and that a mark stands exactly where
 -- two strips, alike in every byte that is not damaged, have different samples. Assumes nothing.
 use Rattle.std.specs.Prelude.{ℕ, ◌/◌, ◌<◌, ◌≡◌, Bool, List, [], ◌∷◌, ◌++◌, length, get_or, ltb}
-use Rattle.answer.specs.Outcome.{Outcome, done, refused, number, Fault, unless, output_too_small, Promise, Sound, outcome, Answer}
+use Rattle.answer.specs.Outcome.{Fault, unless, output_too_small, Promise, Sound, outcome, Answer}
 use Rattle.answer.specs.Table.{table}
 use Rattle.samples.specs.Sample.{Strip}
 use Rattle.samples.specs.Promises.{strip_faults}

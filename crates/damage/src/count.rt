@@ -10,10 +10,8 @@ fn few(marks: &[u8]) -> u8
     ensures { result ≡ counted (length marks.now) (damaged marks.now) }
 {
     let mut sum: u8 = 0;
-    let mut n: usize = 0;
-    while n < marks.len() {
-        sum += marks[n];
-        n += 1;
+    for mark in marks {
+        sum += *mark;
     }
     sum
 }

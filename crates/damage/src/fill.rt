@@ -8,10 +8,8 @@ use answer::SampleAt;
 fn fill(mark: u8, marks: &mut [u8])
     ensures { marks.new ≡ table (length marks.old) (λ n. mark) }
 {
-    let mut n: usize = 0;
-    while n < marks.len() {
-        marks[n] = mark;
-        n += 1;
+    for each in marks.iter_mut() {
+        *each = mark;
     }
 }
 

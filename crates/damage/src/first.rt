@@ -10,10 +10,8 @@ fn sound(block: &[u8]) -> bool
     ensures { result ≡ true → SoundTo block.now (length block.now) }
 {
     let mut most: u8 = 0;
-    let mut n: usize = 0;
-    while n < block.len() {
-        most = onward::larger(most, block[n]);
-        n += 1;
+    for byte in block {
+        most = onward::larger(most, *byte);
     }
     most == 0
 }
@@ -37,14 +35,12 @@ fn sound_blocks(damage: &[u8]) -> usize
 pub(crate) fn first_damaged(damage: &[u8]) -> ByteAt
     ensures { FirstDamaged damage.now result.0 }
 {
-    let mut at = sound_blocks(damage);
-    while at < damage.len() {
+    for at in sound_blocks(damage)..damage.len() {
         if damage[at] != 0 {
             return ByteAt(at);
         }
-        at += 1;
     }
-    ByteAt(at)
+    ByteAt(damage.len())
 }
 
 // The sample that a byte is one of.

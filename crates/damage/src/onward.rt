@@ -12,9 +12,7 @@ pub(crate) fn onward(channels: usize, marks: &mut [u8])
     requires { Bits marks.old × (0 < channels) }
     ensures { OnwardInto channels marks.old marks.new }
 {
-    let mut n = channels;
-    while n < marks.len() {
+    for n in channels..marks.len() {
         marks[n] = larger(marks[n], marks[n - channels]);
-        n += 1;
     }
 }

@@ -12,8 +12,7 @@ pub(crate) fn pixel_struck(damage: &[u8], first: ByteAt, channels: usize, width:
 {
     let first = first.0;
     let mut at = first - first % width;
-    let mut left: usize = channels;
-    while 0 < left {
+    for _looked in 0..channels {
         if damage.len() <= at {
             return true;
         }
@@ -21,7 +20,6 @@ pub(crate) fn pixel_struck(damage: &[u8], first: ByteAt, channels: usize, width:
             return false;
         }
         at += width;
-        left -= 1;
     }
     true
 }

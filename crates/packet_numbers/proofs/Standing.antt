@@ -11,12 +11,11 @@ use lib.Dec.{ltb, eqb}
 use lib.ListN.{length, get_or, set, length-set}
 use lib.Seq.{ext_get_or, get_or-set_same, get_or-set_other}
 use Rattle.answer.specs.Table.{table, stores}
-use Rattle.answer.proofs.Filling.{part, length_part, part_at, length-table, table_at, table_same, table_self, length-stores, stores_at, stores_rest}
+use Rattle.answer.proofs.Filling.{part, part_table, length-table, table_at, table_same, table_self, length-stores, stores_at, stores_rest}
 use Rattle.words.specs.Digits.{digit, value}
 use Rattle.words.specs.Word.{Bytes}
 use Rattle.words.proofs.Digits.{digit_value, value-digit, value_same}
 use Rattle.laws.specs.Turns.{every}
-use Rattle.laws.proofs.Lists.{FilledTo, filled_end}
 use Rattle.laws.proofs.Says.{clash, neither}
 use Rattle.laws.proofs.Turns.{every_one, every-all, every-same}
 use Rattle.packets.specs.declared.Packets.{Packets}
@@ -24,11 +23,12 @@ use Rattle.packets.specs.Promises.{state}
 use Rattle.packet_numbers.specs.Numbers.{flag_of, tail_of, sums_in, plan_in, state_of, unused, all_unused, strays, with_sums, Stands}
 use Rattle.packet_numbers.proofs.Splices.{spliced, length_spliced, spliced_front, spliced_part, spliced_rest}
 
--- a loop that came to its end has read all sums, and looked at all numbers that are not used
-pub sums-all : (s : List ℕ) {old sums : List ℕ} {n : ℕ} → length old ≡ 64 → 64 ≤ n → FilledTo (λ j. get_or s (8 + j) 0) old n sums → sums ≡ sums_in s
+-- the sums where they stand
+pub sums_part : (s : List ℕ) → length s ≡ 80 → part 8 72 s ≡ sums_in s
 unfolding sums_in
-sums-all s long high is = filled_end is (omega (arith, long)) ∙ ap (λ (n : ℕ). table n (λ j. get_or s (8 + j) 0)) long
+sums_part s long = part_table 8 72 s (omega arith) (omega (arith, long))
 
+-- a loop that came to its end has stored all sums, and looked at all numbers that are not used
 pub with_all : (sums : List ℕ) {n : ℕ} {s : List ℕ} → n ≤ 64 → 64 ≤ n → s ≡ stores (table 80 (λ j. 0)) 8 n (λ j. get_or sums j 0) → s ≡ with_sums sums
 unfolding with_sums
 with_all sums {n} low high e = let all : n ≡ 64 = omega arith in e ∙ ap (λ (m : ℕ). stores (table 80 (λ j. 0)) 8 m (λ j. get_or sums j 0)) all
@@ -158,14 +158,6 @@ module _ (s : List ℕ) (kept : strays s ≡ false) (sums tail : List ℕ) (rece
     kept = rw (eq-eqb (length moved) 80 moved_long, moved_front 3 (omega arith), moved_front 4 (omega arith), moved_front 5 (omega arith), moved_none) (neither (not (eqb (length s) 80)) _ kept).1;
     state = rw (moved_front 0 (omega arith), moved_front 1 (omega arith), moved_front 2 (omega arith), moved_front 3 (omega arith), moved_front 4 (omega arith), moved_front 5 (omega arith), moved_received, moved_tail, tail_joined v tail tails bytes joined, moved_sums);
   }
-
--- the sums where they stand
-pub sums_part : (s : List ℕ) → length s ≡ 80 → part 8 72 s ≡ sums_in s
-unfolding sums_in
-sums_part s long =
-    sym (table_self (part 8 72 s))
-    ∙ ap (λ (n : ℕ). table n (λ k. get_or (part 8 72 s) k 0)) (length_part 8 72 s (omega arith) (omega (arith, long)))
-    ∙ table_same 64 (λ k. get_or (part 8 72 s) k 0) (λ j. get_or s (8 + j) 0) (part_at 8 72 s)
 
 -- numbers that stand for one state are the same, being 80 numbers of 64 bits
 pub record Numbers (s : List ℕ) : Type 0 where

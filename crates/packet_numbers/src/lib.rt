@@ -38,11 +38,7 @@ fn sums_of(s: &[u64]) -> [u64; 64]
     ensures { result ≡ sums_in s.now }
 {
     let mut sums = [0u64; 64];
-    let mut i: usize = 0;
-    while i < 64 {
-        sums[i] = s[8 + i];
-        i += 1;
-    }
+    sums.copy_from_slice(&s[8..72]);
     sums
 }
 
@@ -80,10 +76,8 @@ fn all_unused(s: &[u64]) -> bool
     ensures { result ≡ all_unused s.now }
 {
     let mut none = true;
-    let mut i: usize = 0;
-    while i < 8 {
+    for i in 0..8 {
         none = none & (s[72 + i] == 0);
-        i += 1;
     }
     none
 }
@@ -112,10 +106,8 @@ fn with_sums(sums: [u64; 64]) -> [u64; 80]
     ensures { result ≡ with_sums sums }
 {
     let mut s = [0u64; 80];
-    let mut i: usize = 0;
-    while i < 64 {
-        s[8 + i] = sums[i];
-        i += 1;
+    for (i, sum) in sums.iter().enumerate() {
+        s[8 + i] = *sum;
     }
     s
 }
@@ -151,8 +143,7 @@ pub fn piece(s: &mut [u64], bytes: &[u8], out: &mut [u8]) -> Result<usize, Refus
     let mut tail = tail_of(s[7]);
     let first: usize = 8;
     let end: usize = 72;
-    let answer = packets::lent_piece(plan, received, bytes, &mut tail, &mut s[first..end], out);
-    let n = answer?;
+    let n = packets::lent_piece(plan, received, bytes, &mut tail, &mut s[first..end], out)?;
     s[6] = (received + bytes.len()) as u64;
     s[7] = word_of(&tail);
     Ok(n)

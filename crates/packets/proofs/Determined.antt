@@ -1,10 +1,9 @@
 -- Each promise of this crate allows one outcome. Assumes nothing.
-use Rattle.std.specs.Prelude.{Ok, Err}
-use mathlib.Core.Path.{◌≡◌, refl, sym, ap, ◌∙◌}
+use mathlib.Core.Path.{◌≡◌, sym, ap, ◌∙◌}
 use mathlib.Core.List.{List}
 use Prim.Native.Nat.{ℕ}
-use Rattle.answer.specs.Outcome.{Outcome, done, refused, outcome, Answer, Done}
-use Rattle.answer.proofs.Promised.{determined, answer_once, once, kind, kind-number}
+use Rattle.answer.specs.Outcome.{outcome, Answer, Done}
+use Rattle.answer.proofs.Promised.{determined, answer_once}
 use Rattle.packets.specs.declared.Packets.{Packets}
 use Rattle.packets.specs.declared.Started.{Started}
 use Rattle.packets.specs.declared.Stepped.{Stepped}

@@ -1,7 +1,7 @@
 -- What starting, a piece and closing promise (rules 16.1 to 16.5). Assumes nothing.
 use Prim.{Unit}
 use Rattle.std.specs.Prelude.{ℕ, ◌+◌, ◌-◌, ◌*◌, ◌/◌, ◌%◌, ◌≡◌, Bool, false, not, List, [], ◌∷◌, ◌++◌, length, take, eqb, ltb}
-use Rattle.answer.specs.Outcome.{Outcome, done, refused, Fault, unless, invalid, output_too_small, limit, number, instead, Promise, outcome, Answer, Done}
+use Rattle.answer.specs.Outcome.{Outcome, done, Fault, unless, invalid, output_too_small, limit, instead, Promise, outcome, Answer, Done}
 use Rattle.answer.specs.Table.{table}
 use Rattle.words.specs.Word.{Bytes}
 use Rattle.samples.specs.Sample.{stored_at}

@@ -20,10 +20,8 @@ fn tail_right(tail: &[u8], begun: usize) -> bool
     ensures { result ≡ tails_right tail.now begun }
 {
     let mut right = true;
-    let mut i: usize = 0;
-    while i < 8 {
-        right = right & byte_right(tail[i], i < begun);
-        i += 1;
+    for (i, byte) in tail.iter().enumerate() {
+        right = right & byte_right(*byte, i < begun);
     }
     right
 }
@@ -53,10 +51,8 @@ fn sums_small(sums: &[u64], width: usize, begun: usize) -> bool
 {
     let most = greatest(width);
     let mut right = true;
-    let mut i: usize = 0;
-    while i < begun {
-        right = right & (sums[i] <= most);
-        i += 1;
+    for sum in &sums[..begun] {
+        right = right & (*sum <= most);
     }
     right
 }
@@ -66,10 +62,8 @@ fn none(s: &[u64]) -> bool
     ensures { result ≡ every (length s.now) (λ i. eqb (get_or s.now i 0) 0) }
 {
     let mut any: u64 = 0;
-    let mut i: usize = 0;
-    while i < s.len() {
-        any = any | s[i];
-        i += 1;
+    for number in s {
+        any = any | *number;
     }
     any == 0
 }
@@ -111,17 +105,15 @@ pub(crate) fn passes(
     requires { (length tail.now ≡ 8) × (length sums.now ≡ 64) }
     ensures { result ≡ consistent (state (plan row_bytes channels width true predict true) received tail.now sums.now) }
 {
-    match samples::check_strip(0, row_bytes, channels, width) {
-        Err(_) => false,
-        Ok(()) => {
-            if 1073741824 < received {
-                return false;
-            }
-            if !tail_right(tail, feed::past(received, width)) {
-                return false;
-            }
-            let begun = begun_channels(predict, feed::whole(received % row_bytes, width), channels);
-            sums_right(sums, width, begun)
-        }
+    if samples::check_strip(0, row_bytes, channels, width).is_err() {
+        return false;
     }
+    if 1073741824 < received {
+        return false;
+    }
+    if !tail_right(tail, feed::past(received, width)) {
+        return false;
+    }
+    let begun = begun_channels(predict, feed::whole(received % row_bytes, width), channels);
+    sums_right(sums, width, begun)
 }

@@ -31,10 +31,8 @@ pub(crate) fn past(n: usize, width: usize) -> usize
 fn clear(sums: &mut [u64])
     ensures { Cleared sums.old sums.new }
 {
-    let mut i: usize = 0;
-    while i < sums.len() {
-        sums[i] = 0;
-        i += 1;
+    for sum in sums.iter_mut() {
+        *sum = 0;
     }
 }
 
@@ -43,10 +41,8 @@ fn hold(bytes: &[u8], fill: usize, tail: &mut [u8])
     requires { HoldFits bytes.now fill tail.old }
     ensures { Held bytes.now fill tail.old tail.new }
 {
-    let mut i: usize = 0;
-    while i < bytes.len() {
-        tail[fill + i] = bytes[i];
-        i += 1;
+    for (i, byte) in bytes.iter().enumerate() {
+        tail[fill + i] = *byte;
     }
 }
 
@@ -56,7 +52,7 @@ fn in_row(plan: Plan, received: usize, place: usize, raw: &[u8], sums: &mut [u64
     ensures { WordsFed plan received raw.now sums.old out.old sums.new out.new }
 {
     let first = whole(place, plan.width) % plan.channels;
-    rows::resume_row(
+    let _ = rows::resume_row(
         raw,
         first,
         plan.channels,
@@ -78,7 +74,7 @@ fn from_row(plan: Plan, received: usize, raw: &[u8], sums: &mut [u64], out: &mut
 {
     let start: usize = 0;
     let rows = raw.len() - raw.len() % plan.row_bytes;
-    strips::convert(
+    let _ = strips::convert(
         &raw[start..rows],
         plan.row_bytes,
         plan.channels,
@@ -140,7 +136,7 @@ fn words(plan: Plan, received: usize, raw: &[u8], sums: &mut [u64], out: &mut [u
     if plan.predict {
         return predicted(plan, received, raw, sums, out);
     }
-    samples::reorder(raw, plan.width, plan.le, plan.out_le, out);
+    let _ = samples::reorder(raw, plan.width, plan.le, plan.out_le, out);
 }
 
 // Bytes from a word's start on.
@@ -176,7 +172,7 @@ fn word(plan: Plan, received: usize, raw: &[u8], sums: &mut [u64], out: &mut [u8
         let place = received % plan.row_bytes;
         return in_row(plan, received, place, raw, sums, out);
     }
-    samples::reorder(raw, plan.width, plan.le, plan.out_le, out);
+    let _ = samples::reorder(raw, plan.width, plan.le, plan.out_le, out);
 }
 
 // The word that was cut, if one was.

@@ -30,12 +30,14 @@ pub struct Packets {
     pub sums: [u64; 64],
 }
 
+// What `start` hands back. No Result: a refusal hands back a state too, to which nothing leads (`Begun`).
 #[derive(Clone, Copy)]
 pub struct Started {
     pub state: Packets,
     pub answer: Result<(), Refusal>,
 }
 
+// What `piece` hands back. No Result: a refusal hands back the state that came in (`Took`).
 #[derive(Clone, Copy)]
 pub struct Stepped {
     pub state: Packets,

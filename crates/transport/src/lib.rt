@@ -14,11 +14,7 @@ fn copy(source: &[u8], out: &mut [u8])
     requires { length source.now ≤ length out.old }
     ensures { CopiedInto source.now out.old out.new }
 {
-    let mut i: usize = 0;
-    while i < source.len() {
-        out[i] = source[i];
-        i += 1;
-    }
+    out[..source.len()].copy_from_slice(source);
 }
 
 // A copy of the source at the front of the output.
@@ -49,10 +45,8 @@ fn reversed_byte(b: u8) -> u8
 fn reverse_by_bits(s: &mut [u8])
     ensures { Reversed s.old s.new }
 {
-    let mut i: usize = 0;
-    while i < s.len() {
-        s[i] = reversed_byte(s[i]);
-        i += 1;
+    for byte in s.iter_mut() {
+        *byte = reversed_byte(*byte);
     }
 }
 
@@ -61,10 +55,8 @@ fn reverse_by_table(s: &mut [u8], table: &[u8; 256])
     requires { Tabled 256 reversed table.now }
     ensures { Reversed s.old s.new }
 {
-    let mut i: usize = 0;
-    while i < s.len() {
-        s[i] = table[s[i] as usize];
-        i += 1;
+    for byte in s.iter_mut() {
+        *byte = table[*byte as usize];
     }
 }
 

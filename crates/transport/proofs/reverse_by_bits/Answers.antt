@@ -4,6 +4,6 @@ use Rattle.laws.proofs.Lists.{changed_next}
 use Rattle.transport.specs.Moved.{reversed}
 use Rattle.transport.proofs.reverse_by_bits.Goals as goal
 
-pub loop-i-preserved : goal.loop-i-preserved
-loop-i-preserved c =
-    changed_next reversed c.loop-i.invariant (search rules) c.reversed_byte.ensures
+pub loop-byte-preserved : goal.loop-byte-preserved
+loop-byte-preserved c =
+    changed_next reversed c.loop-byte.invariant (search rules) c.reversed_byte.ensures

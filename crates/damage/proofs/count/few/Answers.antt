@@ -6,4 +6,4 @@ use Rattle.damage.proofs.count.few.Goals as goal
 
 pub overflow_add-sum : goal.overflow_add-sum
 overflow_add-sum c =
-    omega (arith, c.requires.0 c.loop-n.n, c.requires.1, c.loop-n.invariant.1, counted-most c.loop-n.n (damaged c.args.marks.now), c.well_formed)
+    omega (arith, c.requires.0 c.loop-mark.mark-index, c.requires.1, c.loop-mark.invariant.1, counted-most c.loop-mark.mark-index (damaged c.args.marks.now), c.well_formed)

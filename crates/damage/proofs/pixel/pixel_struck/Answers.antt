@@ -12,5 +12,5 @@ nonzero_rem-at c =
 
 pub mark_at-requires : goal.mark_at-requires
 mark_at-requires c =
-    let room : let args = c.args in c.loop-left.at + args.width ≤ length args.damage.now = struck-room c.loop-left.invariant c.requires.whole (omega (arith, c.if-damage-at.false)) in
+    let room : let args = c.args in c.loop-looked.at + args.width ≤ length args.damage.now = struck-room c.loop-looked.invariant c.requires.whole (omega (arith, c.if-damage-at.false)) in
     (c.requires.takes, room)

@@ -3,8 +3,5 @@ use Prim.Native.Nat.{◌/◌}
 use Rattle.damage.proofs.Begins.{Struck}
 use Rattle.damage.proofs.pixel.pixel_struck.Given as goal
 
-abbrev pub invariant-loop-left : goal.invariant-loop-left
-invariant-loop-left l = Struck l.damage l.channels l.width (l.first / l.width) l.at l.left
-
-abbrev pub decreases-loop-left : goal.decreases-loop-left
-decreases-loop-left l = l.left
+abbrev pub invariant-loop-looked : goal.invariant-loop-looked
+invariant-loop-looked l = Struck l.damage l.width (l.first / l.width) l.at l._looked

@@ -13,12 +13,12 @@ use Rattle.packets.proofs.Behind.{sane_sound}
 use Rattle.packets.proofs.Answers.{begun-done}
 use Rattle.packets.proofs.Packets.start.Goals as goal
 
-pub returns-in-Done : goal.returns-in-Done
+pub returns-in-Ok : goal.returns-in-Ok
 unfolding state_at nowhere
-returns-in-Done c =
+returns-in-Ok c =
     let asked : Plan = let args = c.args in plan args.row_bytes args.channels args.width args.le args.predict args.out_le in
     let p = asked in
-    let sound = passed (strip_faults 0 (geometry p)) c.check_strip.result c.check_strip.ensures c.in-Done.is in
+    let sound = passed (strip_faults 0 (geometry p)) c.check_strip.result c.check_strip.ensures c.in-Ok.is in
     let sane = sane_sound p sound in
     let place : 0 / p.width % (p.row_bytes / p.width) ≡ 0 = rw (zero-div p.width) (zero-mod (p.row_bytes / p.width)) in
     begun-done sound refl (rw (c.nothing-state.ensures, tail_none p sane [] 0 (zero-mod p.width), sums_none p sane [] 0 place))

@@ -7,8 +7,8 @@ use Rattle.laws.proofs.Turns.{every_more}
 use Rattle.packets.proofs.Checking.{or_none}
 use Rattle.packets.proofs.check.none.Goals as goal
 
-pub loop-i-preserved : goal.loop-i-preserved
-loop-i-preserved c =
-    let at = c.loop-i in
+pub loop-number-preserved : goal.loop-number-preserved
+loop-number-preserved c =
+    let at = c.loop-number in
     let s = c.args.s.now in
-    (omega (arith, c.loop-i-test.true), or_none at.any (get_or s at.i 0) ∙ every_more at.i (λ k. eqb (get_or s k 0) 0) at.invariant.1 refl)
+    (omega (arith, c.loop-number-test.true), or_none at.any (get_or s at.number-index 0) ∙ every_more at.number-index (λ k. eqb (get_or s k 0) 0) at.invariant.1 refl)
