@@ -1,9 +1,8 @@
 -- Each promise of this crate allows one answer. Assumes nothing.
-use Rattle.std.specs.Prelude.{Ok, Err}
-use mathlib.Core.Path.{◌≡◌, refl, sym, ap, ◌∙◌}
+use mathlib.Core.Path.{◌≡◌, sym, ◌∙◌}
 use Prim.Native.Nat.{ℕ}
-use Rattle.answer.specs.Outcome.{Outcome, done, refused, outcome, place_outcome, Answer, Done}
-use Rattle.answer.proofs.Promised.{kind, kind-number, once, answer_once, place_once}
+use Rattle.answer.specs.Outcome.{Answer, Done}
+use Rattle.answer.proofs.Promised.{answer_once, place_once}
 use Rattle.answer.specs.declared.ByteAt.{ByteAt}
 use Rattle.layout.specs.declared.Fields.{Fields}
 use Rattle.layout.specs.declared.RasterLayout.{RasterLayout}

@@ -4,3 +4,4 @@ pub mod Whole
 pub mod Placed
 pub mod Determined
 pub mod Theorems
+pub mod Compared

@@ -1,7 +1,7 @@
 -- Layouts (rules 5.1 to 5.9): what a caller says, what follows from it, the faults in their order, and where a byte comes from.
 -- Assumes nothing.
 use Rattle.std.specs.Prelude.{ℕ, ◌+◌, ◌-◌, ◌*◌, ◌/◌, ◌%◌, ◌≤◌, ◌<◌, ◌≡◌, Bool, not, ◌&&◌, ◌||◌, List, [], ◌∷◌, ◌++◌, eqb, ltb, leb}
-use Rattle.answer.specs.Outcome.{Outcome, done, refused, Fault, unless, unsupported, invalid, limit, number, pick, Sound, outcome, place_outcome, Answer, Done}
+use Rattle.answer.specs.Outcome.{Fault, unless, unsupported, invalid, limit, pick, Sound, outcome, place_outcome, Answer, Done}
 use Rattle.answer.specs.declared.ByteAt.{ByteAt}
 use Rattle.layout.specs.declared.Fields.{Fields}
 use Rattle.layout.specs.declared.RasterLayout.{RasterLayout}

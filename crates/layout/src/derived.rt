@@ -5,19 +5,21 @@ ghost use Rattle.layout.specs.Layout.{plane_channels, planes as planesOf, colour
 use crate::{Fields, RasterLayout};
 
 // Bytes of a place of a plane.
+#[tactic(auto, unfolding(crate::specs::Layout::plane_channels))]
 fn plane_channels(f: Fields) -> usize
     requires { Sound (layout_faults f) }
     ensures { result ≡ plane_channels f }
 {
     if f.palette {
-        return 1;
+        1
+    } else if f.separate {
+        f.bytes
+    } else {
+        f.ch * f.bytes
     }
-    if f.separate {
-        return f.bytes;
-    }
-    f.ch * f.bytes
 }
 
+#[tactic(auto, unfolding(crate::specs::Layout::planes))]
 fn planes(f: Fields) -> usize
     ensures { result ≡ planesOf f }
 {
@@ -25,19 +27,19 @@ fn planes(f: Fields) -> usize
 }
 
 // Colours of the palette, if there is one.
+#[tactic(auto, unfolding(crate::specs::Layout::colours))]
 fn colors(f: Fields) -> usize
     ensures { result ≡ colours f }
 {
-    if f.slots == 8 {
-        return 2;
+    match f.slots {
+        8 => 2,
+        2 => 16,
+        _ => 256,
     }
-    if f.slots == 2 {
-        return 16;
-    }
-    256
 }
 
 // The record with what follows from its fields.
+#[tactic(auto, unfolding(crate::specs::Layout::encoded_width, crate::specs::Layout::plane_length, crate::specs::Layout::scratch_length, crate::specs::Layout::output_length))]
 pub(crate) fn complete(f: Fields) -> RasterLayout
     requires { Sound (layout_faults f) }
     ensures { result ≡ completed f }

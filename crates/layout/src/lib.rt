@@ -1,7 +1,7 @@
 // Layouts of pictures: what a caller says of one, what follows from it, whether it can be, and where a byte of the picture comes from.
 #![tactic(auto)]
 
-use answer::{ByteAt, Refusal, fault, first_of};
+use answer::{ByteAt, Refusal, fault};
 
 mod derived;
 mod rules;
@@ -11,8 +11,10 @@ ghost use Rattle.std.specs.Prelude.{◌≡◌};
 ghost use Rattle.answer.specs.Outcome.{Step};
 ghost use Rattle.layout.specs.Layout.{layout_faults, agreement, LayoutChecked, RecordChecked, Indexed};
 
+use rules::{check_agreed, check_served, check_size};
+
 // What a caller says of a picture: all of a record that is not worked out.
-#[derive(Clone, Copy)]
+#[derive(Clone, Copy, PartialEq, Eq)]
 pub struct Fields {
     pub w: usize,
     pub h: usize,
@@ -28,7 +30,7 @@ pub struct Fields {
 }
 
 // A picture's layout: what a caller says, and what follows from it.
-#[derive(Clone, Copy)]
+#[derive(Clone, Copy, PartialEq, Eq)]
 pub struct RasterLayout {
     pub fields: Fields,
     pub encoded_width: usize,
@@ -44,10 +46,9 @@ pub struct RasterLayout {
 fn check_fields(f: Fields) -> Result<(), Refusal>
     ensures { Step (layout_faults f) result }
 {
-    let served = rules::check_served(f);
-    let agreed = rules::check_agreed(f);
-    first_of(served, agreed)?;
-    rules::check_size(f)
+    check_served(f)?;
+    check_agreed(f)?;
+    check_size(f)
 }
 
 // The full record of a picture, if there is one.
@@ -58,26 +59,13 @@ pub fn check_layout(f: Fields) -> Result<RasterLayout, Refusal>
     Ok(derived::complete(f))
 }
 
-// Whether a record says of itself what follows from the rest of it.
-fn agrees(l: RasterLayout, right: RasterLayout) -> bool
-    ensures { result ≡ agreement l right }
-{
-    (l.encoded_width == right.encoded_width)
-        & (l.plane_channels == right.plane_channels)
-        & (l.planes == right.planes)
-        & (l.plane_len == right.plane_len)
-        & (l.scratch_len == right.scratch_len)
-        & (l.output_len == right.output_len)
-        & (l.colors == right.colors)
-}
-
 // Whether a record, by hand or not, is the one that the check answers.
 pub fn check_record(l: RasterLayout) -> Result<(), Refusal>
     ensures { RecordChecked l result }
 {
     let f = l.fields;
     check_fields(f)?;
-    fault(!agrees(l, derived::complete(f)), Refusal::Invalid)
+    fault(l != derived::complete(f), Refusal::Invalid)
 }
 
 // Where byte k of the picture comes from.

@@ -9,10 +9,11 @@ use answer::SampleAt;
 fn is_packed(l: RasterLayout) -> bool
     ensures { result ≡ packed l }
 {
-    l.fields.palette | (l.fields.slots == 8)
+    l.fields.palette || l.fields.slots == 8
 }
 
 // Rows of whole bytes.
+#[tactic(auto, unfolding(crate::specs::Layout::packed_index))]
 fn packed_index(l: RasterLayout, k: usize) -> usize
     requires { (Asked l k) × (packed l ≡ true) }
     ensures { result ≡ packed_index l k }
@@ -22,13 +23,15 @@ fn packed_index(l: RasterLayout, k: usize) -> usize
 }
 
 // The two bytes of a little-endian word change places.
+#[tactic(auto, unfolding(crate::specs::Layout::high_first))]
 fn high_first(bytes: usize, le: bool, c: usize) -> usize
     ensures { result ≡ high_first bytes le c }
 {
-    if bytes != 2 {
-        return c;
+    if bytes == 2 && le {
+        c - c % 2 + 1 - c % 2
+    } else {
+        c
     }
-    if le { c - c % 2 + 1 - c % 2 } else { c }
 }
 
 // Which sample of the planes channel c of pixel p is.

@@ -1,24 +1,16 @@
 -- `layout::check_fields` meets its contract: the three steps' faults, one list after another. Assumes nothing.
-use mathlib.Core.List.{◌++◌}
-use Rattle.answer.specs.Outcome.{Step}
-use Rattle.answer.proofs.Promised.{sound-front, step-sound, step-refused, step-on}
-use Rattle.layout.specs.Layout.{served_faults, agreed_faults}
-use Rattle.layout.proofs.check_fields.Goals.{After-first_of}
+use Rattle.answer.proofs.Promised.{handed_on, step-sound, step-refused, step-on}
 use Rattle.layout.proofs.check_fields.Goals as goal
 
--- the first two steps, in their order
-steps : (c : After-first_of) → let f = c.args.f in Step (served_faults f ++ agreed_faults f) c.first_of.result
-steps c =
-    c.first_of.ensures _ _ c.check_served-served.ensures c.check_agreed-agreed.ensures
+pub returns-in_err-check_agreed : goal.returns-in_err-check_agreed
+returns-in_err-check_agreed c =
+    rw (handed_on c.from_residual-in_err-check_agreed.result c.from_residual-in_err-check_agreed.ensures.1)
+    (step-on c.check_served.ensures c.in_ok-check_served.was (step-refused _ c.check_agreed.ensures c.in_err-check_agreed.was))
 
 pub check_size-requires : goal.check_size-requires
 check_size-requires c =
-    sound-front _ _ (step-sound (steps (goal.at.check_size-requires c).After-first_of) c.in-Done.is)
+    step-sound c.check_served.ensures c.in_ok-check_served.was
 
-pub returns-in-Refused : goal.returns-in-Refused
-returns-in-Refused c =
-    step-refused _ (steps (goal.at.returns-in-Refused c).After-first_of) c.in-Refused.is
-
-pub returns-in-Done : goal.returns-in-Done
-returns-in-Done c =
-    step-on (steps (goal.at.returns-in-Done c).After-first_of) c.in-Done.is c.check_size.ensures
+pub returns : goal.returns
+returns c =
+    step-on c.check_served.ensures c.in_ok-check_served.was (step-on c.check_agreed.ensures c.in_ok-check_agreed.was c.check_size.ensures)

@@ -55,8 +55,3 @@ unfolding encoded_width plane_length scratch_length output_length
 overflow_mul-result-4 c =
     let a = known (goal.at.overflow_mul-result-4 c).Start in
     let few = up_to_eight a.bytes in whole-fits a.width a.height (omega arith) (omega arith)
-
-pub returns : goal.returns
-unfolding encoded_width plane_length scratch_length output_length
-returns c =
-    rw (c.plane_channels-plane_channels.ensures, c.planes-planes.ensures, c.colors.ensures)

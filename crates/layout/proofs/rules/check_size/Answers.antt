@@ -1,38 +1,26 @@
--- `layout::rules::check_size` meets its contract: the tests are rule 5.3's step 3, in order. Within the limits no product wraps. Assumes nothing.
-use borrow.Author.Tests.{lt-ltb, le-ltb}
+-- `layout::rules::check_size` meets its contract: within the limits no product wraps. Assumes nothing.
+use borrow.Author.Tests.{ltb-false}
 use native.Mathlib.Omega.{arith}
 use Prim.Native.Nat.{◌≤◌}
-use Rattle.answer.specs.Outcome.{here, later, next, none}
-use Rattle.answer.proofs.Promised.{refusing, finishing}
-use Rattle.layout.specs.Layout.{side_limit, byte_limit, output_length, size_faults}
+use Rattle.answer.proofs.Promised.{sound-here, step-sound}
+use Rattle.layout.specs.Layout.{side_limit}
 use Rattle.layout.proofs.Accepted.{served-few}
 use Rattle.layout.proofs.Sizes.{part_fits, whole-fits}
-use Rattle.layout.proofs.rules.check_size.Goals.{Else-f-gt-SIDE_LIMIT-2}
+use Rattle.layout.proofs.rules.check_size.Goals.{In_ok-fault-2}
 use Rattle.layout.proofs.rules.check_size.Goals as goal
 
--- what the first step has shown, where the product begins
-few : (c : Else-f-gt-SIDE_LIMIT-2) → let f = c.args.f in (f.ch ≤ 4) × (f.bytes ≤ 8)
-few c =
-    served-few c.args.f c.requires
+-- what the steps before have shown, where the product begins
+sides : (c : In_ok-fault-2) → let f = c.args.f in (f.w ≤ side_limit) × (f.h ≤ side_limit)
+sides c =
+    let f = c.args.f in
+    (ltb-false side_limit f.w (sound-here (step-sound c.fault.ensures c.in_ok-fault.was)), ltb-false side_limit f.h (sound-here (step-sound c.fault-2.ensures c.in_ok-fault-2.was)))
 
 pub overflow_mul-f-2 : goal.overflow_mul-f-2
-unfolding output_length
 overflow_mul-f-2 c =
-    let small = few (goal.at.overflow_mul-f-2 c).Else-f-gt-SIDE_LIMIT-2 in part_fits (omega arith) (omega arith) (omega arith)
+    let side = sides (goal.at.overflow_mul-f-2 c).In_ok-fault-2 in
+    let small = served-few c.args.f c.requires in part_fits side.0 side.1 (omega arith)
 
 pub overflow_mul-f-3 : goal.overflow_mul-f-3
-unfolding output_length
 overflow_mul-f-3 c =
-    let small = few (goal.at.overflow_mul-f-3 c).Else-f-gt-SIDE_LIMIT-2 in whole-fits (omega arith) (omega arith) (omega arith) (omega arith)
-
-pub returns-then-f-gt-BYTE_LIMIT : goal.returns-then-f-gt-BYTE_LIMIT
-unfolding output_length
-returns-then-f-gt-BYTE_LIMIT c =
-    let f = c.args.f in
-    record { passed = refusing (size_faults f) tt (later (le-ltb side_limit f.w (omega arith)) (later (le-ltb side_limit f.h (omega arith)) (here (lt-ltb byte_limit (output_length f) (omega arith))))) }
-
-pub returns : goal.returns
-unfolding output_length
-returns c =
-    let f = c.args.f in
-    record { passed = finishing (size_faults f) tt (next (le-ltb side_limit f.w (omega arith)) (next (le-ltb side_limit f.h (omega arith)) (next (le-ltb byte_limit (output_length f) (omega arith)) none))) }
+    let side = sides (goal.at.overflow_mul-f-3 c).In_ok-fault-2 in
+    let small = served-few c.args.f c.requires in whole-fits side.0 side.1 (omega arith) (omega arith)

@@ -1,6 +1,5 @@
 -- `layout::source::packed_index` meets its contract: nothing divides by 0, and the sum is below the scratch length. Assumes nothing.
 use native.Mathlib.Omega.{arith}
-use mathlib.Core.Path.{refl}
 use Prim.Native.Nat.{◌≤◌}
 use mir.Facts.{Fits-below}
 use Rattle.layout.specs.Layout.{byte_limit, packed_index}
@@ -44,8 +43,3 @@ pub overflow_add-result : goal.overflow_add-result
 unfolding packed_index
 overflow_add-result c =
     Fits-below {n = byte_limit} tt (omega (arith, limited (goal.at.overflow_add-result c).Start))
-
-pub returns : goal.returns
-unfolding packed_index
-returns c =
-    refl

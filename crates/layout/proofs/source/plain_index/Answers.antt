@@ -48,16 +48,16 @@ sample_of-sample-requires c =
     omega (arith, sample-inside l c.requires.0.sound c.args.k c.requires.1 c.requires.0.within, scratch_limited l c.requires.0.sound, le-mul_of_pos_right {m = l.fields.bytes} (sample + 1) (some (goal.at.sample_of-sample-requires c).Start), mul_comm (sample + 1) l.fields.bytes) in
     record { some = some (goal.at.sample_of-sample-requires c).Start; limited = rw c.high_first-c.ensures (omega (arith, sample_limited)) }
 
-pub returns-in-At : goal.returns-in-At
-returns-in-At c =
+pub returns-in-Ok : goal.returns-in-Ok
+returns-in-Ok c =
     let sample : ℕ = let l = c.args.l in sample_index l (pixel_of l c.args.k) (byte_of l c.args.k / l.fields.bytes) in
-    let answered : let l = c.args.l in c.in-At.at.0 + c.high_first-c.result % l.fields.bytes ≡ plain_index l c.args.k = let l = c.args.l in
-    let told = ap place_outcome c.in-At.is in
-    let is = place_is (goal.at.returns-in-At c).After-byte_place (some (goal.at.returns-in-At c).Start) in
-    let here : c.in-At.at.0 ≡ sample * l.fields.bytes = cc in
+    let answered : let l = c.args.l in c.in-Ok.at.0 + c.high_first-c.result % l.fields.bytes ≡ plain_index l c.args.k = let l = c.args.l in
+    let told = ap place_outcome c.in-Ok.is in
+    let is = place_is (goal.at.returns-in-Ok c).After-byte_place (some (goal.at.returns-in-Ok c).Start) in
+    let here : c.in-Ok.at.0 ≡ sample * l.fields.bytes = cc in
     rw (here, c.high_first-c.ensures) (sample-place l c.requires.0.sound c.args.k c.requires.1 c.requires.0.within) in
     answered
 
-pub returns-in-Refused : goal.returns-in-Refused
-returns-in-Refused c =
-    let told = ap place_outcome c.in-Refused.is in let is = place_is (goal.at.returns-in-Refused c).After-byte_place (some (goal.at.returns-in-Refused c).Start) in absurd (let z : ◌≡◌ {A = ℕ} 0 1 = cc in omega arith)
+pub returns-in-Err : goal.returns-in-Err
+returns-in-Err c =
+    let told = ap place_outcome c.in-Err.is in let is = place_is (goal.at.returns-in-Err c).After-byte_place (some (goal.at.returns-in-Err c).Start) in absurd (let z : ◌≡◌ {A = ℕ} 0 1 = cc in omega arith)
