@@ -8,21 +8,21 @@ fn little2(s: &[u8], at: usize) -> u16
     requires { at + 2 ≤ length s.now }
     ensures { result ≡ word_at s.now at 2 true }
 {
-    words::join2(s[at + 0], s[at + 1])
+    u16::from_le_bytes([s[at + 0], s[at + 1]])
 }
 
 fn little4(s: &[u8], at: usize) -> u32
     requires { at + 4 ≤ length s.now }
     ensures { result ≡ word_at s.now at 4 true }
 {
-    words::join4(s[at + 0], s[at + 1], s[at + 2], s[at + 3])
+    u32::from_le_bytes([s[at + 0], s[at + 1], s[at + 2], s[at + 3]])
 }
 
 fn little8(s: &[u8], at: usize) -> u64
     requires { at + 8 ≤ length s.now }
     ensures { result ≡ word_at s.now at 8 true }
 {
-    words::join8(
+    u64::from_le_bytes([
         s[at + 0],
         s[at + 1],
         s[at + 2],
@@ -31,7 +31,7 @@ fn little8(s: &[u8], at: usize) -> u64
         s[at + 5],
         s[at + 6],
         s[at + 7],
-    )
+    ])
 }
 
 fn store2(out: &mut [u8], at: usize, v: u16)
@@ -71,19 +71,19 @@ pub(crate) fn back2(raw: &[u8], from: usize, out: &mut [u8], at: usize)
     requires { Room raw.now from 2 out.old at }
     ensures { AsWord (Whole 2) raw.now from 2 out.old at out.new }
 {
-    store2(out, at, words::backwards2(little2(raw, from)));
+    store2(out, at, little2(raw, from).swap_bytes());
 }
 
 pub(crate) fn back4(raw: &[u8], from: usize, out: &mut [u8], at: usize)
     requires { Room raw.now from 4 out.old at }
     ensures { AsWord (Whole 4) raw.now from 4 out.old at out.new }
 {
-    store4(out, at, words::backwards4(little4(raw, from)));
+    store4(out, at, little4(raw, from).swap_bytes());
 }
 
 pub(crate) fn back8(raw: &[u8], from: usize, out: &mut [u8], at: usize)
     requires { Room raw.now from 8 out.old at }
     ensures { AsWord PutHalves raw.now from 8 out.old at out.new }
 {
-    store8(out, at, words::backwards8(little8(raw, from)));
+    store8(out, at, little8(raw, from).swap_bytes());
 }
