@@ -1,4 +1,5 @@
 pub mod Promised
 pub mod Handed
+pub mod Chains
 pub mod Filling
 pub mod Determined

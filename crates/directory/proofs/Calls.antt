@@ -58,10 +58,10 @@ module _ (file : List ℕ) (page k : ℕ) (r : Answer (ByteAt × ℕ)) (p : Stri
   pub no_part : (n : Refusal) → r ≡ Err n → StripCut file page k []
   no_part n e = ap (cut file) (sym (ap place_outcome e) ∙ p)
 
-  pub a_part : (at : ByteAt) (bytes : ℕ) → r ≡ Ok at bytes → StripCut file page k (take bytes (drop at.0 file))
+  pub a_part : (at : ByteAt) (bytes : ℕ) → r ≡ Ok (at, bytes) → StripCut file page k (take bytes (drop at.0 file))
   a_part at bytes e = ap (cut file) (sym (ap place_outcome e) ∙ p)
 
-  pub inside : (at : ByteAt) (bytes : ℕ) → r ≡ Ok at bytes → at.0 + bytes ≤ length file
+  pub inside : (at : ByteAt) (bytes : ℕ) → r ≡ Ok (at, bytes) → at.0 + bytes ≤ length file
   unfolding strip_faults
   inside at bytes e =
       let found = answered place_outcome (place_faults file page k) (strip_part file strips k) p e refl in

@@ -2,7 +2,7 @@
 use Rattle.std.specs.Prelude.{Ok, Err}
 use Prim.Native.Nat.{ℕ}
 use Rattle.answer.proofs.Promised.{answer_determined, kind, kind-number, once, answer_once}
-use Rattle.answer.specs.Outcome.{Outcome, done, refused, outcome, Answer, Done}
+use Rattle.answer.specs.Outcome.{Outcome, done, refused, Answer, Done}
 use Rattle.directory.specs.Page.{DirectoryRead, Part, StripCut, StripPlaced, StripsPlaced, place_outcome}
 use Rattle.directory.specs.declared.Page.{Page}
 use mathlib.Core.List.{List}
@@ -13,11 +13,11 @@ pub read_directory_determined : (file : List ℕ) (page : ℕ) (a b : Answer Pag
 read_directory_determined file page a b p q = answer_once a b (p ∙ sym q)
 
 abbrev place-back : Outcome Part → (Answer (ByteAt × ℕ))
-place-back (done p) = Ok (record { 0 = p.at }) p.bytes
+place-back (done p) = Ok (record { 0 = p.at }, p.bytes)
 place-back (refused n) = Err (kind n)
 
 place_told : (a : Answer (ByteAt × ℕ)) → place-back (place_outcome a) ≡ a
-place_told (Ok at n) = refl
+place_told (Ok p) = refl
 place_told (Err k) = ap Err (kind-number k)
 
 pub strip_place_determined : (file : List ℕ) (page k : ℕ) (a b : Answer (ByteAt × ℕ)) → StripPlaced file page k a → StripPlaced file page k b → a ≡ b

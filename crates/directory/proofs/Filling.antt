@@ -26,7 +26,7 @@ module _ (file : List ℕ) (s : Strips) (k : ℕ) where
       rw (odd, half) refl
 
 -- a strip more
-pub parts_more : (f : ℕ → ℕ) (old out : List ℕ) (k at x y : ℕ) → FilledTo f old (2 * k) out → at ≡ 2 * k → 2 * k + 2 ≤ length old → x ≡ f (2 * k) → y ≡ f (2 * k + 1) → FilledTo f old (2 * (k + 1)) (set (set out (at + 0) x) (at + 1) y)
-parts_more f old out k at x y is e room ex ey =
+pub parts_more : (f : ℕ → ℕ) (old out : List ℕ) (k x y : ℕ) → FilledTo f old (2 * k) out → 2 * k + 2 ≤ length old → x ≡ f (2 * k) → y ≡ f (2 * k + 1) → FilledTo f old (2 * (k + 1)) (set (set out (2 * k + 0) x) (2 * k + 1) y)
+parts_more f old out k x y is room ex ey =
     let twice : 2 * (k + 1) ≡ 2 * k + 1 + 1 = omega arith in
-    rw (e, add-zero (2 * k), twice) (filled_next (filled_next is (omega arith) x ex) (omega arith) y ey)
+    rw (add-zero (2 * k), twice) (filled_next (filled_next is (omega arith) x ex) (omega arith) y ey)

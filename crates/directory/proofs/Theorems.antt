@@ -215,7 +215,7 @@ some_length file s k rows row sound = by s.packbits refl
     by false e = rw (plain-length file s k sound e) (mul-pos rows row)
 
 -- so a strip that is found is not empty: `strip` is empty exactly on refusal
-pub strip-some : (file : List ℕ) (page k : ℕ) (r : Answer (ByteAt × ℕ)) (s : List ℕ) (at : ByteAt) (n : ℕ) → StripPlaced file page k r → StripCut file page k s → r ≡ Ok at n → (length s ≡ n) × (0 < n)
+pub strip-some : (file : List ℕ) (page k : ℕ) (r : Answer (ByteAt × ℕ)) (s : List ℕ) (at : ByteAt) (n : ℕ) → StripPlaced file page k r → StripCut file page k s → r ≡ Ok (at, n) → (length s ≡ n) × (0 < n)
 strip-some file page k r s at n p q e =
     let d = directory file page in
     let strips = page_strips file d in

@@ -99,7 +99,7 @@ page_of file d =
     }
 
 abbrev pub place_outcome : (Answer (ByteAt × ℕ)) → Outcome Part
-place_outcome (Ok at bytes) = done (record { at = at.0; bytes = bytes })
+place_outcome (Ok p) = done (record { at = p.0.0; bytes = p.1 })
 place_outcome (Err k) = refused (number k)
 
 -- the part of the file that an outcome says, nothing on a refusal

@@ -1,6 +1,6 @@
 -- What the crate's own functions need and answer. Assumes nothing.
 use Rattle.std.specs.Prelude.{ℕ, ◌*◌, ◌<◌, ◌≡◌, List}
-use Rattle.answer.specs.Outcome.{Outcome, done, refused, number, unless, Promise, outcome, Answer, Done}
+use Rattle.answer.specs.Outcome.{unless, Promise, outcome, Answer, Done}
 use Rattle.answer.specs.declared.ByteAt.{ByteAt}
 use Rattle.layout.specs.declared.RasterLayout.{RasterLayout}
 use Rattle.layout.specs.Layout.{completed}

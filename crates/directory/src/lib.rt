@@ -12,7 +12,7 @@ ghost use Rattle.answer.specs.Outcome.{unless, outcome};
 ghost use Rattle.directory.specs.Page.{strips_faults, DirectoryRead, StripPlaced, StripCut, StripsPlaced};
 ghost use Rattle.directory.specs.Parts.{page_by, OnePlaced, PartsPlaced};
 
-use pages::{Opening, Whole, open_page};
+use pages::{Whole, open_page};
 use strips::{Strips, check_strip, check_strips, fill_parts, length_of, place_of};
 
 // A page: its layout, how its rows were predicted (1: not; 2: by the sample before), how many strips it has, and how they are
@@ -28,20 +28,16 @@ pub struct Page {
 fn count_of(s: Strips) -> usize
     ensures { result ≡ s.offsets.count }
 {
-    let n = s.offsets.count;
-    n as usize
+    s.offsets.count as usize
 }
 
 fn page_by(w: Whole) -> Page
     ensures { result ≡ page_by w }
 {
-    let layout = w.layout;
-    let s = w.strips;
-    let strips = count_of(s);
     Page {
-        layout,
+        layout: w.layout,
         predictor: w.predictor,
-        strips,
+        strips: count_of(w.strips),
         compression: w.compression,
     }
 }
@@ -49,8 +45,7 @@ fn page_by(w: Whole) -> Page
 fn read_strips(file: &[u8], w: Whole) -> Result<Page, Refusal>
     ensures { outcome result ≡ unless (strips_faults file.now w.strips) (page_by w) }
 {
-    let s = w.strips;
-    check_strips(file, s)?;
+    check_strips(file, w.strips)?;
     Ok(page_by(w))
 }
 
@@ -65,8 +60,7 @@ pub fn read_directory(file: &[u8], page: usize) -> Result<Page, Refusal>
 fn one_strip(file: &[u8], s: Strips, k: usize) -> Result<(ByteAt, usize), Refusal>
     ensures { OnePlaced file.now s k result }
 {
-    let n = s.offsets.count;
-    if n as usize <= k {
+    if count_of(s) <= k {
         return Err(Refusal::Invalid);
     }
     let j = k as u32;
@@ -81,8 +75,7 @@ pub fn strip_place(file: &[u8], page: usize, k: usize) -> Result<(ByteAt, usize)
     ensures { StripPlaced file.now page k result }
 {
     let w = open_page(file, page)?;
-    let s = w.strips;
-    one_strip(file, s, k)
+    one_strip(file, w.strips, k)
 }
 
 // Strip k of a page: a part of the file, empty on refusal.
@@ -90,12 +83,12 @@ pub fn strip(file: &[u8], page: usize, k: usize) -> &[u8]
     ensures { StripCut file.now page k result.now }
 {
     match strip_place(file, page, k) {
-        Err(_) => &file[0..0],
         Ok((at, bytes)) => {
             let from = at.0;
             let to = from + bytes;
             &file[from..to]
         }
+        Err(_) => &file[0..0],
     }
 }
 
@@ -115,6 +108,5 @@ pub fn strip_places(file: &[u8], page: usize, parts: &mut [usize]) -> Result<(),
     ensures { StripsPlaced file.now page parts.old result parts.new }
 {
     let w = open_page(file, page)?;
-    let s = w.strips;
-    place_strips(file, s, parts)
+    place_strips(file, w.strips, parts)
 }

@@ -30,12 +30,10 @@ fn strips_by(t: Tags, l: RasterLayout) -> Strips
     requires { (l ≡ completed t.fields) × (SmallRow l) }
     ensures { result ≡ strips_by t }
 {
-    let offsets = t.offsets;
-    let counts = t.counts;
     Strips {
         le: t.fields.le,
-        offsets,
-        counts,
+        offsets: t.offsets,
+        counts: t.counts,
         rows: t.rows,
         each: t.each,
         row: row_bytes(l),
@@ -47,8 +45,7 @@ fn strips_by(t: Tags, l: RasterLayout) -> Strips
 fn lay_out(t: Tags) -> Result<Whole, Refusal>
     ensures { outcome result ≡ unless (layout_faults t.fields) (whole_by t) }
 {
-    let f = t.fields;
-    let l = layout::check_layout(f)?;
+    let l = layout::check_layout(t.fields)?;
     Ok(Whole {
         layout: l,
         predictor: t.predictor,

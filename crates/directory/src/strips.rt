@@ -6,7 +6,7 @@ ghost use Rattle.packbits.specs.Rows.{rows_faults};
 ghost use Rattle.tags.specs.Tags.{strips_per_plane};
 ghost use Rattle.directory.specs.Page.{smaller, strip_place, strip_length, strip_faults, strips_faults, part_number};
 
-use answer::{Refusal, fault, first_of};
+use answer::{Refusal, fault};
 use entries::{Field, value};
 use packbits::check_rows;
 use tags::strips_per_plane;
@@ -28,16 +28,8 @@ fn rows_at(rows: u32, each: u32, turn: u32) -> u32
     ensures { result ≡ smaller each (rows - turn * each) }
 {
     let before = (turn as usize) * (each as usize);
-    let all = rows as usize;
-    if all <= before {
-        return 0;
-    }
-    let left = all - before;
-    if (each as usize) < left {
-        each
-    } else {
-        left as u32
-    }
+    let left = (rows as usize).saturating_sub(before);
+    left.min(each as usize) as u32
 }
 
 fn times(a: u32, b: u32) -> usize
@@ -50,24 +42,23 @@ fn times(a: u32, b: u32) -> usize
 pub(crate) fn place_of(file: &[u8], s: Strips, k: u32) -> u32
     ensures { result ≡ strip_place file.now s k }
 {
-    let offsets = s.offsets;
-    value(file, s.le, offsets, k)
+    value(file, s.le, s.offsets, k)
 }
 
 pub(crate) fn length_of(file: &[u8], s: Strips, k: u32) -> u32
     ensures { result ≡ strip_length file.now s k }
 {
-    let counts = s.counts;
-    value(file, s.le, counts, k)
+    value(file, s.le, s.counts, k)
 }
 
 // The rows of a strip, which are read if they are packed.
 fn check_packed(packed: bool, strip: &[u8], rows: u32, row: u32) -> Result<(), Refusal>
     ensures { Step (pick packed (rows_faults strip.now rows row) []) result }
 {
-    match packed {
-        true => check_rows(strip, rows as usize, row as usize),
-        false => Ok(()),
+    if packed {
+        check_rows(strip, rows as usize, row as usize)
+    } else {
+        Ok(())
     }
 }
 
@@ -80,10 +71,8 @@ fn check_turn(file: &[u8], s: Strips, k: u32, turn: u32) -> Result<(), Refusal>
     let bytes = length_of(file, s, k) as usize;
     let rows = rows_at(s.rows, s.each, turn);
     let right = times(rows, s.row);
-    first_of(
-        fault(!s.packbits & (bytes != right), Refusal::Invalid),
-        fault(file.len() < at + bytes, Refusal::Truncated),
-    )?;
+    fault(!s.packbits & (bytes != right), Refusal::Invalid)?;
+    fault(file.len() < at + bytes, Refusal::Truncated)?;
     let end = at + bytes;
     check_packed(s.packbits, &file[at..end], rows, s.row)
 }
@@ -91,10 +80,7 @@ fn check_turn(file: &[u8], s: Strips, k: u32, turn: u32) -> Result<(), Refusal>
 fn rest(k: u32, per: u32) -> u32
     ensures { result ≡ k % per }
 {
-    if per == 0 {
-        return k;
-    }
-    k % per
+    if per == 0 { k } else { k % per }
 }
 
 pub(crate) fn check_strip(file: &[u8], s: Strips, k: u32) -> Result<(), Refusal>
@@ -110,24 +96,17 @@ fn next_turn(turn: u32, per: u32) -> u32
     ensures { result ≡ pick (eqb (turn + 1) per) 0 (turn + 1) }
 {
     let next = turn + 1;
-    match next == per {
-        true => 0,
-        false => next,
-    }
+    if next == per { 0 } else { next }
 }
 
 pub(crate) fn check_strips(file: &[u8], s: Strips) -> Result<(), Refusal>
     ensures { Step (strips_faults file.now s) result }
 {
-    let n = s.offsets.count;
     let per = strips_per_plane(s.rows, s.each);
-    let mut k: u32 = 0;
     let mut turn: u32 = 0;
-    while k < n {
+    for k in 0..s.offsets.count {
         check_turn(file, s, k, turn)?;
-
         turn = next_turn(turn, per);
-        k += 1;
     }
     Ok(())
 }
@@ -137,13 +116,9 @@ pub(crate) fn fill_parts(file: &[u8], s: Strips, parts: &mut [usize])
     requires { 2 * s.offsets.count ≤ length parts.old }
     ensures { parts.new ≡ filled (2 * s.offsets.count) (part_number file.now s) parts.old }
 {
-    let n = s.offsets.count;
-    let mut k: u32 = 0;
-    let mut at: usize = 0;
-    while k < n {
+    for k in 0..s.offsets.count {
+        let at = 2 * (k as usize);
         parts[at + 0] = place_of(file, s, k) as usize;
         parts[at + 1] = length_of(file, s, k) as usize;
-        at += 2;
-        k += 1;
     }
 }

@@ -1,12 +1,11 @@
 -- Each promise of this crate allows one answer. Assumes nothing.
-use Rattle.std.specs.Prelude.{Ok, Err}
 use Prim.Native.Nat.{ℕ}
-use Rattle.answer.proofs.Promised.{kind, kind-number, once, answer_once}
-use Rattle.answer.specs.Outcome.{Outcome, done, refused, outcome, Answer}
+use Rattle.answer.proofs.Promised.{answer_once}
+use Rattle.answer.specs.Outcome.{Answer}
 use Rattle.tags.specs.Tags.{TagsRead, strips_per_plane}
 use Rattle.tags.specs.declared.Tags.{Tags}
 use mathlib.Core.List.{List}
-use mathlib.Core.Path.{◌∙◌, ◌≡◌, ap, refl, sym}
+use mathlib.Core.Path.{◌∙◌, ◌≡◌, sym}
 
 pub read_tags_determined : (file : List ℕ) (page : ℕ) (a b : Answer Tags) → TagsRead file page a → TagsRead file page b → a ≡ b
 read_tags_determined file page a b p q = answer_once a b (p ∙ sym q)

@@ -1,6 +1,6 @@
 -- The used tags (rules 14.7 to 14.10): of each its values and its contradictions with lower tags, and what they say together. Assumes nothing.
 use Rattle.std.specs.Prelude.{ℕ, ◌+◌, ◌-◌, ◌*◌, ◌/◌, ◌≡◌, Bool, true, false, not, ◌&&◌, ◌||◌, List, [], ◌∷◌, ◌++◌, length, eqb, ltb, leb}
-use Rattle.answer.specs.Outcome.{Outcome, done, refused, number, Fault, unless, unsupported, invalid, pick, outcome, Answer}
+use Rattle.answer.specs.Outcome.{Fault, unless, unsupported, invalid, pick, outcome, Answer}
 use Rattle.laws.specs.Turns.{every}
 use Rattle.layout.specs.declared.Fields.{Fields}
 use Rattle.entries.specs.declared.Directory.{Directory}

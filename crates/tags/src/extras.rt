@@ -6,9 +6,8 @@ ghost use Rattle.entries.specs.Parts.{From};
 
 use crate::shape::Shape;
 use crate::split::{Split, samples_of};
-use crate::{choose, wide};
-use answer::{Refusal, fault, first_of};
-use entries::{Directory, Field, check_field, field_from};
+use answer::{Refusal, fault};
+use entries::{Amount, Directory, Field, Kinds, Need, check_field, field_from};
 
 #[derive(Clone, Copy)]
 pub(crate) struct Extras {
@@ -31,26 +30,27 @@ pub(crate) fn read_extras(file: &[u8], d: Directory, from: usize) -> Extras
     }
 }
 
+#[tactic(auto, using(answer::proofs::Chains::unless_next), unfolding(crate::specs::Tags::predictor_faults))]
 fn check_predictor(size: usize, depth: u32, f: Field) -> Result<(), Refusal>
     ensures { Step (predictor_faults size depth f) result }
 {
-    let field = check_field(size, false, false, false, f);
-    let known = fault(
+    check_field(size, Need::Defaulted, Kinds::Shorts, Amount::One, f)?;
+    fault(
         !((f.value == 1) | ((f.value == 2) & (8 <= depth))),
         Refusal::Unsupported,
-    );
-    first_of(field, known)
+    )
 }
 
 // The values of a colour map.
 fn map_values(depth: u32) -> usize
     ensures { result ≡ map_values depth }
 {
-    choose(
-        depth == 1,
-        6,
-        choose(depth == 4, 48, choose(depth == 8, 768, 196608)),
-    )
+    match depth {
+        1 => 6,
+        4 => 48,
+        8 => 768,
+        _ => 196608,
+    }
 }
 
 pub(crate) fn is_palette(s: Shape) -> bool
@@ -59,31 +59,31 @@ pub(crate) fn is_palette(s: Shape) -> bool
     s.photometric.value == 3
 }
 
+#[tactic(auto, using(answer::proofs::Chains::unless_next), unfolding(crate::specs::Tags::map_faults))]
 fn check_map(size: usize, s: Shape, depth: u32, f: Field) -> Result<(), Refusal>
     ensures { Step (map_faults size s depth f) result }
 {
-    match is_palette(s) {
-        true => first_of(
-            check_field(size, true, false, true, f),
-            fault(wide(f.count) != map_values(depth), Refusal::Invalid),
-        ),
-        false => Ok(()),
+    if !is_palette(s) {
+        return Ok(());
     }
+    check_field(size, Need::Required, Kinds::Shorts, Amount::Several, f)?;
+    fault(f.count as usize != map_values(depth), Refusal::Invalid)
 }
 
+#[tactic(auto, using(answer::proofs::Chains::unless_next), unfolding(crate::specs::Tags::extra_faults))]
 fn check_extra(size: usize, s: Shape, t: Split, f: Field) -> Result<(), Refusal>
     ensures { Step (extra_faults size s t f) result }
 {
     let right = samples_of(s.photometric.value, f.there);
-    let field = check_field(size, false, false, false, f);
-    let known = fault(
+    check_field(size, Need::Defaulted, Kinds::Shorts, Amount::One, f)?;
+    fault(
         f.there & !((f.value == 1) | (f.value == 2)),
         Refusal::Unsupported,
-    );
-    let all = fault(wide(t.samples.value) != right, Refusal::Invalid);
-    first_of(field, first_of(known, all))
+    )?;
+    fault(t.samples.value as usize != right, Refusal::Invalid)
 }
 
+#[tactic(auto, using(answer::proofs::Chains::unless_next), unfolding(crate::specs::Tags::extras_faults))]
 pub(crate) fn check_extras(
     size: usize,
     s: Shape,
@@ -93,8 +93,7 @@ pub(crate) fn check_extras(
 ) -> Result<(), Refusal>
     ensures { Step (extras_faults size s t depth x) result }
 {
-    let predictor = check_predictor(size, depth, x.predictor);
-    let map = check_map(size, s, depth, x.map);
-    let extra = check_extra(size, s, t, x.extra);
-    first_of(predictor, first_of(map, extra))
+    check_predictor(size, depth, x.predictor)?;
+    check_map(size, s, depth, x.map)?;
+    check_extra(size, s, t, x.extra)
 }

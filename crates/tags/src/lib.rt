@@ -1,7 +1,7 @@
 // The used tags of a page of a TIFF file: what they say of its layout, its predictor and its strips, and what is wrong with them.
 #![tactic(auto)]
 
-use answer::{Refusal, first_of};
+use answer::Refusal;
 use entries::{Directory, Field};
 use layout::Fields;
 
@@ -12,7 +12,7 @@ mod split;
 ghost use Rattle.std.specs.Prelude.{◌≡◌};
 ghost use Rattle.answer.specs.Outcome.{pick};
 ghost use Rattle.entries.specs.Parts.{Room};
-ghost use Rattle.tags.specs.Tags.{strips_per_plane, sample_bytes, samples_in_byte, fields_by, tags_by, TagsRead};
+ghost use Rattle.tags.specs.Tags.{strips_per_plane, is_palette, sample_bytes, samples_in_byte, fields_by, tags_by, TagsRead};
 ghost use Rattle.tags.specs.Parts.{Shaped, LaterRead, UsedRead};
 
 use extras::{Extras, is_palette};
@@ -31,82 +31,82 @@ pub struct Tags {
     pub counts: Field,
 }
 
-// One of two numbers.
-pub(crate) fn choose(first: bool, a: usize, b: usize) -> usize
-    ensures { result ≡ pick first a b }
-{
-    match first {
-        true => a,
-        false => b,
-    }
-}
-
-pub(crate) fn wide(v: u32) -> usize
-    ensures { result ≡ v }
-{
-    v as usize
-}
-
 // Strips of a plane of so many rows, if each has so many: the last may have fewer.
+#[tactic(auto, using(crate::proofs::Sizes::rounded_up), unfolding(crate::specs::Tags::strips_per_plane))]
 pub fn strips_per_plane(rows: u32, each: u32) -> u32
     ensures { result ≡ strips_per_plane rows each }
 {
     if each == 0 {
         return 0;
     }
-    let r = rows as usize;
-    let e = each as usize;
-    ((r + (e - 1)) / e) as u32
+    rows.div_ceil(each)
 }
 
 fn sample_bytes(depth: u32) -> usize
     ensures { result ≡ sample_bytes depth }
 {
-    choose(depth == 16, 2, 1)
+    if depth == 16 { 2 } else { 1 }
 }
 
 fn samples_in_byte(depth: u32) -> usize
     ensures { result ≡ samples_in_byte depth }
 {
-    choose(depth == 1, 8, choose(depth == 4, 2, 1))
-}
-
-// What the tags say of the layout.
-fn fields_of(le: bool, s: Shape, t: Split, depth: u32, x: Extras) -> Fields
-    ensures { result ≡ fields_by le s t depth x }
-{
-    let palette = is_palette(s);
-    Fields {
-        w: wide(s.width.value),
-        h: wide(s.height.value),
-        ch: choose(palette, 3, wide(t.samples.value)),
-        bytes: sample_bytes(depth),
-        slots: samples_in_byte(depth),
-        palette,
-        separate: t.planar.value == 2,
-        le,
-        white: s.photometric.value == 0,
-        alpha: wide(x.extra.value),
-        map: choose(palette, x.map.place, 0),
+    match depth {
+        1 => 8,
+        4 => 2,
+        _ => 1,
     }
 }
 
+// The channels of a picture, of which a palette makes three, and where its map stands.
+fn channels(s: Shape, t: Split) -> usize
+    ensures { result ≡ pick (is_palette s) 3 t.samples.value }
+{
+    if is_palette(s) {
+        3
+    } else {
+        t.samples.value as usize
+    }
+}
+
+fn map_place(s: Shape, x: Extras) -> usize
+    ensures { result ≡ pick (is_palette s) x.map.place 0 }
+{
+    if is_palette(s) { x.map.place } else { 0 }
+}
+
+// What the tags say of the layout.
+#[tactic(auto, unfolding(crate::specs::Tags::fields_by))]
+fn fields_of(le: bool, s: Shape, t: Split, depth: u32, x: Extras) -> Fields
+    ensures { result ≡ fields_by le s t depth x }
+{
+    Fields {
+        w: s.width.value as usize,
+        h: s.height.value as usize,
+        ch: channels(s, t),
+        bytes: sample_bytes(depth),
+        slots: samples_in_byte(depth),
+        palette: is_palette(s),
+        separate: t.planar.value == 2,
+        le,
+        white: s.photometric.value == 0,
+        alpha: x.extra.value as usize,
+        map: map_place(s, x),
+    }
+}
+
+#[tactic(auto, unfolding(crate::specs::Tags::tags_by))]
 fn tags_of(le: bool, s: Shape, t: Split, depth: u32, x: Extras) -> Tags
     ensures { result ≡ tags_by le s t depth x }
 {
-    let fields = fields_of(le, s, t, depth, x);
-    let predictor = wide(x.predictor.value);
-    let compression = wide(s.compression.value);
-    let offsets = t.offsets;
-    let counts = t.counts;
     Tags {
-        fields,
-        predictor,
-        compression,
+        fields: fields_of(le, s, t, depth, x),
+        predictor: x.predictor.value as usize,
+        compression: s.compression.value as usize,
         rows: s.height.value,
         each: t.rows.value,
-        offsets,
-        counts,
+        offsets: t.offsets,
+        counts: t.counts,
     }
 }
 
@@ -118,9 +118,8 @@ fn read_later(file: &[u8], d: Directory, s: Shape) -> Result<Tags, Refusal>
     let t = split::read_split(file, d, s.photometric.entry);
     let x = extras::read_extras(file, d, t.planar.entry);
     let depth = shape::depth_of(file, d.le, s.bits);
-    let split = split::check_split(file.len(), s, t);
-    let extras = extras::check_extras(file.len(), s, t, depth, x);
-    first_of(split, extras)?;
+    split::check_split(file.len(), s, t)?;
+    extras::check_extras(file.len(), s, t, depth, x)?;
     Ok(tags_of(d.le, s, t, depth, x))
 }
 

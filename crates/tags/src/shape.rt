@@ -4,8 +4,8 @@ ghost use Rattle.answer.specs.Outcome.{Step};
 ghost use Rattle.tags.specs.Tags.{shape_of, depth_of, all_equal, served_depth, bits_faults, served_compression, shape_faults};
 ghost use Rattle.entries.specs.Parts.{Room};
 
-use answer::{Refusal, fault, first_of};
-use entries::{Directory, Field, check_field, field_from, value};
+use answer::{Refusal, fault};
+use entries::{Amount, Directory, Field, Kinds, Need, check_field, field_from, value};
 
 #[derive(Clone, Copy)]
 pub(crate) struct Shape {
@@ -39,24 +39,23 @@ fn all_equal(file: &[u8], le: bool, bits: Field) -> bool
     ensures { result ≡ all_equal file.now le bits }
 {
     let first = value(file, le, bits, 0);
-    let n = bits.count;
-    let mut same = true;
-    let mut j: u32 = 0;
-    while j < n {
-        same = same & (value(file, le, bits, j) == first);
-        j += 1;
+    for j in 0..bits.count {
+        if value(file, le, bits, j) != first {
+            return false;
+        }
     }
-    same
+    true
 }
 
 // The bits of a sample.
+#[tactic(auto, unfolding(crate::specs::Tags::depth_of))]
 pub(crate) fn depth_of(file: &[u8], le: bool, bits: Field) -> u32
     ensures { result ≡ depth_of file.now le bits }
 {
-    let there = bits.there;
-    match there {
-        true => value(file, le, bits, 0),
-        false => bits.value,
+    if bits.there {
+        value(file, le, bits, 0)
+    } else {
+        bits.value
     }
 }
 
@@ -67,14 +66,19 @@ fn served_depth(depth: u32) -> bool
 }
 
 // The values are looked at once they are known to be there.
+#[tactic(auto, using(answer::proofs::Chains::unless_next), unfolding(crate::specs::Tags::bits_faults))]
 fn check_bits(file: &[u8], le: bool, f: Field) -> Result<(), Refusal>
     ensures { Step (bits_faults file.now le f) result }
 {
-    check_field(file.len(), false, false, true, f)?;
-    first_of(
-        fault(f.there & !all_equal(file, le, f), Refusal::Unsupported),
-        fault(!served_depth(depth_of(file, le, f)), Refusal::Unsupported),
-    )
+    check_field(
+        file.len(),
+        Need::Defaulted,
+        Kinds::Shorts,
+        Amount::Several,
+        f,
+    )?;
+    fault(f.there & !all_equal(file, le, f), Refusal::Unsupported)?;
+    fault(!served_depth(depth_of(file, le, f)), Refusal::Unsupported)
 }
 
 fn served_compression(compression: u32) -> bool
@@ -83,21 +87,31 @@ fn served_compression(compression: u32) -> bool
     (compression == 1) | (compression == 32773)
 }
 
+#[tactic(auto, using(answer::proofs::Chains::unless_next), unfolding(crate::specs::Tags::shape_faults))]
 pub(crate) fn check_shape(file: &[u8], le: bool, s: Shape) -> Result<(), Refusal>
     ensures { Step (shape_faults file.now le s) result }
 {
     let size = file.len();
-    let width = check_field(size, true, true, false, s.width);
-    let height = check_field(size, true, true, false, s.height);
-    let bits = check_bits(file, le, s.bits);
-    let compression = check_field(size, false, false, false, s.compression);
-    let served = fault(
+    check_field(size, Need::Required, Kinds::LongsToo, Amount::One, s.width)?;
+    check_field(size, Need::Required, Kinds::LongsToo, Amount::One, s.height)?;
+    check_bits(file, le, s.bits)?;
+    check_field(
+        size,
+        Need::Defaulted,
+        Kinds::Shorts,
+        Amount::One,
+        s.compression,
+    )?;
+    fault(
         !served_compression(s.compression.value),
         Refusal::Unsupported,
-    );
-    let photometric = check_field(size, true, false, false, s.photometric);
-    let known = fault(3 < s.photometric.value, Refusal::Unsupported);
-    let from_served = first_of(served, first_of(photometric, known));
-    let from_bits = first_of(bits, first_of(compression, from_served));
-    first_of(width, first_of(height, from_bits))
+    )?;
+    check_field(
+        size,
+        Need::Required,
+        Kinds::Shorts,
+        Amount::One,
+        s.photometric,
+    )?;
+    fault(3 < s.photometric.value, Refusal::Unsupported)
 }

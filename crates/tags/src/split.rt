@@ -5,9 +5,9 @@ ghost use Rattle.tags.specs.Tags.{split_of, samples_of, strips_of, samples_fault
 ghost use Rattle.entries.specs.Parts.{From};
 
 use crate::shape::Shape;
-use crate::{choose, strips_per_plane, wide};
-use answer::{Refusal, fault, first_of};
-use entries::{Directory, Field, check_field, field_from};
+use crate::strips_per_plane;
+use answer::{Refusal, fault};
+use entries::{Amount, Directory, Field, Kinds, Need, check_field, field_from};
 
 // The rows of a strip where nothing is said: all.
 const ALL_ROWS: u32 = 4294967295;
@@ -43,54 +43,68 @@ pub(crate) fn read_split(file: &[u8], d: Directory, from: usize) -> Split
 pub(crate) fn samples_of(photometric: u32, extra: bool) -> usize
     ensures { result ≡ samples_of photometric extra }
 {
-    choose(photometric == 2, 3, 1) + choose(extra, 1, 0)
+    let colours = if photometric == 2 { 3 } else { 1 };
+    if extra { colours + 1 } else { colours }
 }
 
+#[tactic(auto, using(answer::proofs::Chains::unless_next), unfolding(crate::specs::Tags::samples_faults))]
 fn check_samples(size: usize, s: Shape, f: Field) -> Result<(), Refusal>
     ensures { Step (samples_faults size s f) result }
 {
     let plain = samples_of(s.photometric.value, false);
     let more = samples_of(s.photometric.value, true);
-    let samples = wide(f.value);
-    let field = check_field(size, false, false, false, f);
-    let each = fault(f.value != s.bits.count, Refusal::Invalid);
-    let right = fault(!((samples == plain) | (samples == more)), Refusal::Invalid);
-    first_of(field, first_of(each, right))
+    let samples = f.value as usize;
+    check_field(size, Need::Defaulted, Kinds::Shorts, Amount::One, f)?;
+    fault(f.value != s.bits.count, Refusal::Invalid)?;
+    fault(!((samples == plain) | (samples == more)), Refusal::Invalid)
 }
 
+#[tactic(auto, unfolding(crate::specs::Tags::strips_of))]
 fn strips(rows: u32, t: Split) -> usize
     ensures { result ≡ strips_of rows t }
 {
-    let per = strips_per_plane(rows, t.rows.value);
-    let samples = t.samples.value;
-    let planes = choose(t.planar.value == 2, samples as usize, 1);
-    (per as usize) * planes
+    let per = strips_per_plane(rows, t.rows.value) as usize;
+    if t.planar.value == 2 {
+        per * t.samples.value as usize
+    } else {
+        per
+    }
 }
 
+#[tactic(auto, using(answer::proofs::Chains::unless_next), unfolding(crate::specs::Tags::planar_faults))]
 fn check_planar(size: usize, s: Shape, t: Split) -> Result<(), Refusal>
     ensures { Step (planar_faults size s t) result }
 {
     let planar = t.planar.value;
-    let field = check_field(size, false, false, false, t.planar);
-    let known = fault(!((planar == 1) | (planar == 2)), Refusal::Unsupported);
-    let all = fault(
-        wide(t.offsets.count) != strips(s.height.value, t),
+    check_field(size, Need::Defaulted, Kinds::Shorts, Amount::One, t.planar)?;
+    fault(!((planar == 1) | (planar == 2)), Refusal::Unsupported)?;
+    fault(
+        t.offsets.count as usize != strips(s.height.value, t),
         Refusal::Invalid,
-    );
-    first_of(field, first_of(known, all))
+    )
 }
 
+#[tactic(auto, using(answer::proofs::Chains::unless_next), unfolding(crate::specs::Tags::split_faults))]
 pub(crate) fn check_split(size: usize, s: Shape, t: Split) -> Result<(), Refusal>
     ensures { Step (split_faults size s t) result }
 {
-    let offsets = check_field(size, true, true, true, t.offsets);
-    let samples = check_samples(size, s, t.samples);
-    let rows = check_field(size, false, true, false, t.rows);
-    let some = fault(t.rows.value == 0, Refusal::Invalid);
-    let counts = check_field(size, true, true, true, t.counts);
-    let same = fault(t.counts.count != t.offsets.count, Refusal::Invalid);
-    let planar = check_planar(size, s, t);
-    let from_counts = first_of(counts, first_of(same, planar));
-    let from_rows = first_of(rows, first_of(some, from_counts));
-    first_of(offsets, first_of(samples, from_rows))
+    check_field(
+        size,
+        Need::Required,
+        Kinds::LongsToo,
+        Amount::Several,
+        t.offsets,
+    )?;
+    check_samples(size, s, t.samples)?;
+    check_field(size, Need::Defaulted, Kinds::LongsToo, Amount::One, t.rows)?;
+    fault(t.rows.value == 0, Refusal::Invalid)?;
+    check_field(
+        size,
+        Need::Required,
+        Kinds::LongsToo,
+        Amount::Several,
+        t.counts,
+    )?;
+    fault(t.counts.count != t.offsets.count, Refusal::Invalid)?;
+    check_planar(size, s, t)
 }

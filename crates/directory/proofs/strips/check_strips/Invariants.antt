@@ -1,5 +1,5 @@
 -- `directory::strips::check_strips` meets its contract: the first strip that has a fault decides. Assumes nothing.
-use Prim.Native.Nat.{◌%◌, ◌-◌, ◌≤◌}
+use Prim.Native.Nat.{◌%◌}
 use Rattle.answer.specs.Outcome.{Sound}
 use Rattle.directory.specs.Page.{strip_faults}
 use Rattle.laws.specs.Turns.{faults_below}
@@ -8,7 +8,4 @@ use mathlib.Core.Path.{◌≡◌}
 use Rattle.directory.proofs.strips.check_strips.Given as goal
 
 abbrev pub invariant-loop-k : goal.invariant-loop-k
-invariant-loop-k l = (l.k ≤ l.s.offsets.count) × ((l.turn ≡ l.k % strips_per_plane l.s.rows l.s.each) × Sound (faults_below l.k (strip_faults l.file l.s)))
-
-abbrev pub decreases-loop-k : goal.decreases-loop-k
-decreases-loop-k l = l.s.offsets.count - l.k
+invariant-loop-k l = (l.turn ≡ l.k % strips_per_plane l.s.rows l.s.each) × Sound (faults_below l.k (strip_faults l.file l.s))

@@ -10,4 +10,4 @@ loop-k-preserved c =
     let file = c.args.file.now in
     let s = c.args.s in
     let k = c.loop-k.k in
-    (omega arith, (omega (arith, c.loop-k.invariant.1.0), parts_more (part_number file s) _ _ k c.loop-k.at _ _ c.loop-k.invariant.1.1 c.loop-k.invariant.1.0 (omega (arith, c.requires, c.loop-k-test.true)) (c.place_of.ensures ∙ sym (place-number file s k)) (c.length_of.ensures ∙ sym (length-number file s k))))
+    parts_more (part_number file s) _ _ k _ _ c.loop-k.invariant (omega (arith, c.requires, c.loop-k-test.true)) (c.place_of.ensures ∙ sym (place-number file s k)) (c.length_of.ensures ∙ sym (length-number file s k))

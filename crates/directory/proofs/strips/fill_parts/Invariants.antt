@@ -1,12 +1,8 @@
 -- `directory::strips::fill_parts` meets its contract: two numbers a turn. Assumes nothing.
-use Prim.Native.Nat.{◌*◌, ◌-◌, ◌≤◌}
+use Prim.Native.Nat.{◌*◌}
 use Rattle.directory.specs.Page.{part_number}
 use Rattle.laws.proofs.Lists.{FilledTo}
-use mathlib.Core.Path.{◌≡◌}
 use Rattle.directory.proofs.strips.fill_parts.Given as goal
 
 abbrev pub invariant-loop-k : goal.invariant-loop-k
-invariant-loop-k l = (l.k ≤ l.s.offsets.count) × ((l.at ≡ 2 * l.k) × FilledTo (part_number l.file l.s) l.initial.parts (2 * l.k) l.parts)
-
-abbrev pub decreases-loop-k : goal.decreases-loop-k
-decreases-loop-k l = l.s.offsets.count - l.k
+invariant-loop-k l = FilledTo (part_number l.file l.s) l.initial.parts (2 * l.k) l.parts

@@ -1,20 +1,13 @@
 -- `entries::walk::ascending` meets its contract: each tag is held against the one before it. Assumes nothing.
-use Rattle.std.proofs.Common.{◌≡◌, ◌+◌, ◌-◌, ◌<◌, ℕ, Bool, true, false, refl, sym, ap, ◌∙◌, arith}
+use Rattle.std.proofs.Common.{◌≡◌, ◌+◌, ◌-◌, ℕ, true, false, refl, sym, ap, ◌∙◌, arith}
 use borrow.Author.Tests.{lt-ltb, le-ltb}
 use Rattle.entries.specs.Entries.{ascending}
 use Rattle.laws.specs.Turns.{every}
-use Rattle.laws.proofs.Turns.{every_more, every_one}
+use Rattle.laws.proofs.Turns.{every_more}
+use Rattle.laws.proofs.Says.{one_fails}
 use Rattle.entries.proofs.walk.ascending.Invariants.{below_next}
 use Rattle.entries.proofs.walk.ascending.Goals.{In-loop-i}
 use Rattle.entries.proofs.walk.ascending.Goals as goal
-
--- one test that fails is enough
-fails : (n : ℕ) (t : ℕ → Bool) (k : ℕ) → k < n → t k ≡ false → false ≡ every n t
-fails n t k h e = by (every n t) refl
-  where
-    by : (b : Bool) → every n t ≡ b → false ≡ every n t
-    by true all = let passes = every_one n t all k h in absurd (cc)
-    by false all = sym all
 
 pub loop-i-preserved : goal.loop-i-preserved
 loop-i-preserved c =
@@ -32,7 +25,7 @@ returns-then-tag_at c =
     let t = below_next c.args.file.now c.args.d in
     let before : i - 1 + 1 ≡ i = omega (arith, c.loop-i.invariant.0) in
     let now : t (i - 1) ≡ false = rw (before, ← c.tag_at.ensures, ← c.tag_at-in-loop-i.ensures) (le-ltb _ _ c.if-tag_at.true) in
-    fails (c.args.d.n - 1) t (i - 1) (omega (arith, c.loop-i.invariant.0, c.loop-i-test.true)) now
+    sym (one_fails (λ m. every m t) t (λ m. refl) (c.args.d.n - 1) (i - 1) (omega (arith, c.loop-i.invariant.0, c.loop-i-test.true)) now)
 
 pub returns : goal.returns
 unfolding ascending

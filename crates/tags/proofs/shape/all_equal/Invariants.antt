@@ -1,5 +1,5 @@
 -- `tags::shape::all_equal` meets its contract: each value is held against the first. Assumes nothing.
-use Prim.Native.Nat.{◌-◌, ◌≤◌, ℕ}
+use Prim.Native.Nat.{ℕ}
 use Rattle.entries.specs.Entries.{value_of}
 use Rattle.entries.specs.declared.Field.{Field}
 use Rattle.laws.specs.Turns.{every}
@@ -7,13 +7,11 @@ use lib.Dec.{eqb}
 use mathlib.Core.Bool.{Bool}
 use mathlib.Core.List.{List}
 use mathlib.Core.Path.{◌≡◌}
+use Rattle.std.proofs.Common.{true}
 use Rattle.tags.proofs.shape.all_equal.Given as goal
 
-abbrev same_as_first : List ℕ → Bool → Field → ℕ → Bool
+abbrev pub same_as_first : List ℕ → Bool → Field → ℕ → Bool
 same_as_first file le bits j = eqb (value_of file le bits j) (value_of file le bits 0)
 
 abbrev pub invariant-loop-j : goal.invariant-loop-j
-invariant-loop-j l = (l.j ≤ l.bits.count) × (l.same ≡ every l.j (same_as_first l.file l.le l.bits))
-
-abbrev pub decreases-loop-j : goal.decreases-loop-j
-decreases-loop-j l = l.bits.count - l.j
+invariant-loop-j l = every l.j (same_as_first l.file l.le l.bits) ≡ true
