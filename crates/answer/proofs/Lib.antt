@@ -1,3 +1,4 @@
 pub mod Promised
+pub mod Handed
 pub mod Filling
 pub mod Determined

@@ -2,8 +2,7 @@
 -- and of a list of faults: the refusal given is that of the first fault, and is given only then. Assumes nothing.
 use Rattle.std.specs.Prelude.{Ok, Err}
 use Prim.{Unit}
-use Rattle.std.specs.Result.{IsErrAnd, is_err}
-use Rattle.std.proofs.lemmas.Result.{err_from_is_err_and}
+use Rattle.std.specs.Result.{is_err}
 use Prim.Native.Nat.{ℕ, zero, suc, ◌≤◌}
 use mathlib.Core.Path.{◌≡◌, refl, sym, ap, ◌∙◌}
 use mathlib.Core.Bool.{Bool, true, false}
@@ -232,7 +231,3 @@ step-refused {fs} gs p e = record { passed = refusing (fs ++ gs) tt (first_more 
 
 pub step-on : {fs gs : List Fault} {a b : Done} → Step fs a → a ≡ (Ok tt) → Step gs b → Step (fs ++ gs) b
 step-on {fs} {gs} p e q = record { passed = q.passed ∙ sym (sound_skip gs tt (step-sound p e)) }
-
--- what the exit of a `?` answers: the refusal that it was handed
-pub handed_on : {A : Type 0} {k : Refusal} (r : Answer A) → IsErrAnd r (λ e. e ≡ k) → r ≡ Err k
-handed_on {A} {k} r e = let p = err_from_is_err_and r e in p.1 ∙ ap Err p.2

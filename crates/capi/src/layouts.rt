@@ -8,7 +8,7 @@ ghost use Rattle.files.specs.File.{Measured, FileWritten};
 ghost use Rattle.capi.specs.Told.{Told, Lent, derived_of, derived_outcome};
 ghost use Rattle.capi.specs.OnLayouts.{fields_of, flagged as flaggedOf, OnLayout, Asked, RefusedUnserved};
 
-use crate::status;
+use crate::{lend, status};
 use answer::{ByteAt, Refusal};
 use layout::{Fields, RasterLayout};
 
@@ -80,7 +80,7 @@ pub extern "C" fn hamrisk_check_layout(layout: &Layout, derived: &mut [usize; 7]
     ensures { OnLayout layout.now (λ f. Lent derived_outcome (LayoutChecked f) result derived.old derived.new) (RefusedUnserved result derived.old derived.new) }
 {
     match asked(layout) {
-        Err(kind) => answer::number(kind),
+        Err(kind) => u32::from(kind),
         Ok(l) => {
             *derived = derived_of(l);
             0
@@ -93,7 +93,7 @@ fn place_of(l: RasterLayout, k: usize, place: &mut usize) -> u32
     ensures { Lent place_outcome (Indexed l k) result place.old place.new }
 {
     match layout::index(l, ByteAt(k)) {
-        Err(kind) => answer::number(kind),
+        Err(kind) => u32::from(kind),
         Ok(p) => {
             *place = p.0;
             0
@@ -107,7 +107,7 @@ pub extern "C" fn hamrisk_index(layout: &Layout, k: usize, place: &mut usize) ->
     ensures { OnLayout layout.now (λ f. Lent place_outcome (Indexed (completed f) k) result place.old place.new) (RefusedUnserved result place.old place.new) }
 {
     match asked(layout) {
-        Err(kind) => answer::number(kind),
+        Err(kind) => u32::from(kind),
         Ok(l) => place_of(l, k, place),
     }
 }
@@ -118,7 +118,7 @@ pub extern "C" fn hamrisk_render(layout: &Layout, file: &[u8], raw: &[u8], out: 
     ensures { OnLayout layout.now (λ f. Told outcome (λ d. Rendered (completed f) file.now raw.now out.old d out.new) result) (RefusedUnserved result out.old out.new) }
 {
     match asked(layout) {
-        Err(kind) => answer::number(kind),
+        Err(kind) => u32::from(kind),
         Ok(l) => status(rendering::render(l, file, raw, out)),
     }
 }
@@ -129,21 +129,8 @@ pub extern "C" fn hamrisk_write_planes(layout: &Layout, picture: &[u8], planes: 
     ensures { OnLayout layout.now (λ f. Told outcome (λ d. PlanesWritten (completed f) picture.now planes.old d planes.new) result) (RefusedUnserved result planes.old planes.new) }
 {
     match asked(layout) {
-        Err(kind) => answer::number(kind),
+        Err(kind) => u32::from(kind),
         Ok(l) => status(writing::write_planes(l, picture, planes)),
-    }
-}
-
-// What a file's answer says: its length is lent back.
-fn length_of(w: Result<usize, Refusal>, length: &mut usize) -> u32
-    ensures { Lent outcome (λ a. a ≡ w) result length.old length.new }
-{
-    match w {
-        Err(kind) => answer::number(kind),
-        Ok(n) => {
-            *length = n;
-            0
-        }
     }
 }
 
@@ -157,8 +144,8 @@ pub extern "C" fn hamrisk_file_length(
     ensures { OnLayout layout.now (λ f. Lent outcome (Measured (completed f) rows_per_strip) result length.old length.new) (RefusedUnserved result length.old length.new) }
 {
     match asked(layout) {
-        Err(kind) => answer::number(kind),
-        Ok(l) => length_of(files::file_length(l, rows_per_strip), length),
+        Err(kind) => u32::from(kind),
+        Ok(l) => lend(files::file_length(l, rows_per_strip), length),
     }
 }
 
@@ -174,7 +161,7 @@ pub extern "C" fn hamrisk_write_file(
     ensures { OnLayout layout.now (λ f. Lent outcome (λ a. FileWritten (completed f) rows_per_strip planes.now out.old a out.new) result length.old length.new) (RefusedUnserved {A = ℕ × List ℕ} result (length.old, out.old) (length.new, out.new)) }
 {
     match asked(layout) {
-        Err(kind) => answer::number(kind),
-        Ok(l) => length_of(files::write_file(l, rows_per_strip, planes, out), length),
+        Err(kind) => u32::from(kind),
+        Ok(l) => lend(files::write_file(l, rows_per_strip, planes, out), length),
     }
 }

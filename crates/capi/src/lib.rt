@@ -25,7 +25,20 @@ pub(crate) fn status(d: Result<(), Refusal>) -> u32
 {
     match d {
         Ok(()) => 0,
-        Err(kind) => answer::number(kind),
+        Err(kind) => u32::from(kind),
+    }
+}
+
+// The same of an answer with a value, which is lent back; on a refusal what is lent stays as it was.
+pub(crate) fn lend<T: Copy>(answer: Result<T, Refusal>, to: &mut T) -> u32
+    ensures { Lent outcome (λ a. a ≡ answer) result to.old to.new }
+{
+    match answer {
+        Err(kind) => u32::from(kind),
+        Ok(value) => {
+            *to = value;
+            0
+        }
     }
 }
 
@@ -40,13 +53,7 @@ pub extern "C" fn hamrisk_read_word(
 ) -> u32
     ensures { Lent outcome (ReadWord s.now at width le) result value.old value.new }
 {
-    match words::read_word(s, ByteAt(at), width, le) {
-        Err(kind) => answer::number(kind),
-        Ok(v) => {
-            *value = v;
-            0
-        }
-    }
+    lend(words::read_word(s, ByteAt(at), width, le), value)
 }
 
 // Sample i of one byte, or of two if `wide`.
@@ -54,13 +61,7 @@ pub extern "C" fn hamrisk_read_word(
 pub extern "C" fn hamrisk_load(s: &[u8], i: usize, wide: bool, le: bool, value: &mut u32) -> u32
     ensures { Lent outcome (LoadedWord s.now i wide le) result value.old value.new }
 {
-    match words::load(s, SampleAt(i), wide, le) {
-        Err(kind) => answer::number(kind),
-        Ok(v) => {
-            *value = v;
-            0
-        }
-    }
+    lend(words::load(s, SampleAt(i), wide, le), value)
 }
 
 // Whether a strip has this geometry.
@@ -123,13 +124,10 @@ pub extern "C" fn hamrisk_marks(
 ) -> u32
     ensures { Lent outcome (λ d. Marked damage.now (strip row_bytes channels width) predict marks.old d marks.new) result count.old count.new }
 {
-    match damage::marks(damage, row_bytes, channels, width, predict, marks) {
-        Err(kind) => answer::number(kind),
-        Ok(n) => {
-            *count = n;
-            0
-        }
-    }
+    lend(
+        damage::marks(damage, row_bytes, channels, width, predict, marks),
+        count,
+    )
 }
 
 // Every byte's bits reversed, in place.

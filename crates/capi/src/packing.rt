@@ -5,33 +5,14 @@ ghost use Rattle.packbits.specs.Rows.{RowUnpacked};
 ghost use Rattle.packbits.specs.Plans.{PlanWritten, RowPacked};
 ghost use Rattle.capi.specs.Told.{Lent};
 
-use answer::Refusal;
+use crate::lend;
 
 // A row of the lent buffer's length.
 #[unsafe(no_mangle)]
 pub extern "C" fn hamrisk_unpack_row(packed: &[u8], row: &mut [u8], used: &mut usize) -> u32
     ensures { Lent outcome (λ a. RowUnpacked packed.now row.old a row.new) result used.old used.new }
 {
-    match packbits::unpack_row(packed, row) {
-        Err(kind) => answer::number(kind),
-        Ok(n) => {
-            *used = n;
-            0
-        }
-    }
-}
-
-// What a packed row's answer says: its length is lent back.
-fn length_of(p: Result<usize, Refusal>, length: &mut usize) -> u32
-    ensures { Lent outcome (λ a. a ≡ p) result length.old length.new }
-{
-    match p {
-        Err(kind) => answer::number(kind),
-        Ok(n) => {
-            *length = n;
-            0
-        }
-    }
+    lend(packbits::unpack_row(packed, row), used)
 }
 
 // A row as its plan has it; a length for each of the two lists.
@@ -45,7 +26,7 @@ pub extern "C" fn hamrisk_write_plan_lists(
 ) -> u32
     ensures { Lent outcome (λ a. PlanWritten row.now kinds.now lengths.now out.old a out.new) result length.old length.new }
 {
-    length_of(packbits::write_plan(row, kinds, lengths, out), length)
+    lend(packbits::write_plan(row, kinds, lengths, out), length)
 }
 
 // A row as literals.
@@ -53,5 +34,5 @@ pub extern "C" fn hamrisk_write_plan_lists(
 pub extern "C" fn hamrisk_pack_row(row: &[u8], out: &mut [u8], length: &mut usize) -> u32
     ensures { Lent outcome (λ a. RowPacked row.now out.old a out.new) result length.old length.new }
 {
-    length_of(packbits::pack_row(row, out), length)
+    lend(packbits::pack_row(row, out), length)
 }

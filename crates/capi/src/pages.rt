@@ -59,7 +59,7 @@ pub extern "C" fn hamrisk_directory(file: &[u8], page: usize, found: &mut [usize
     ensures { Lent found_numbers (DirectoryRead file.now page) result found.old found.new }
 {
     match directory::read_directory(file, page) {
-        Err(kind) => answer::number(kind),
+        Err(kind) => u32::from(kind),
         Ok(p) => {
             *found = numbers_of(p);
             0
@@ -79,7 +79,7 @@ pub extern "C" fn hamrisk_strip(
     ensures { Lent place_numbers (StripPlaced file.now page k) result (place.old, length.old) (place.new, length.new) }
 {
     match directory::strip_place(file, page, k) {
-        Err(kind) => answer::number(kind),
+        Err(kind) => u32::from(kind),
         Ok((at, bytes)) => {
             *place = at.0;
             *length = bytes;

@@ -4,7 +4,7 @@ ghost use Rattle.packets.specs.Promises.{plan as plan_of};
 ghost use Rattle.packet_numbers.specs.Numbers.{PieceOn, CloseOn};
 ghost use Rattle.capi.specs.Told.{Told, Lent, StartTold};
 
-use crate::status;
+use crate::{lend, status};
 use packets::Packets;
 
 // A conversion of which no byte has come.
@@ -21,10 +21,8 @@ pub extern "C" fn hamrisk_packets_start(
     ensures { StartTold (plan_of row_bytes channels width le predict out_le) result state.new }
 {
     let started = Packets::start(row_bytes, channels, width, le, predict, out_le);
-    let begun = started.state;
-    let answer = started.answer;
-    *state = packet_numbers::numbers_of(begun);
-    status(answer)
+    *state = packet_numbers::numbers_of(started.state);
+    status(started.answer)
 }
 
 // The next bytes of the strip: the samples that they complete are written.
@@ -37,13 +35,7 @@ pub extern "C" fn hamrisk_packets_piece(
 ) -> u32
     ensures { Lent outcome (λ a. PieceOn state.old piece.now out.old a state.new out.new) result written.old written.new }
 {
-    match packet_numbers::piece(state, piece, out) {
-        Err(kind) => answer::number(kind),
-        Ok(n) => {
-            *written = n;
-            0
-        }
-    }
+    lend(packet_numbers::piece(state, piece, out), written)
 }
 
 // Whether whole rows have come.

@@ -1,131 +1,87 @@
 // Runs rule 11.2's cases, the lines of `stdin`, over the library; prints those that differ, and then one line of counts.
 #![tactic(auto)]
 
+mod answers;
+mod case;
 mod damage_cases;
 mod layout_cases;
-mod lent;
 mod picture_cases;
 mod sample_cases;
 mod tally;
-mod text;
 mod transport_cases;
 mod word_cases;
 
+use case::Case;
+use layout_cases::{checked, record};
+use std::alloc::AllocError;
 use std::io;
 use std::io::Read;
 use tally::Tally;
 
-fn word_call(call: &[u8], line: &[u8]) -> bool {
-    if check::same(call, b"read_word") {
-        return word_cases::read_word(line);
+// Whether the case holds; one that names no call does not.
+fn holds(case: &mut Case) -> Result<bool, AllocError> {
+    let Ok(call) = std::str::from_utf8(case.word()) else {
+        return Ok(false);
+    };
+    match call {
+        "read_word" => word_cases::read_word(case),
+        "load" => word_cases::load(case),
+        "byte_place" => Ok(word_cases::byte_place(case)),
+        "swap_components" => transport_cases::swap_components(case),
+        "reverse_bits" => transport_cases::reverse_bits(case),
+        "commit_uninit" => transport_cases::commit_uninit(case),
+        "check_strip" => Ok(sample_cases::check_strip(case)),
+        "convert" => sample_cases::convert(case),
+        "forward" => sample_cases::forward(case),
+        "reorder" => sample_cases::reorder(case),
+        "marks" => damage_cases::marks(case),
+        _ => picture_holds(call, case),
     }
-    if check::same(call, b"load") {
-        return word_cases::load(line);
-    }
-    if check::same(call, b"byte_place") {
-        return word_cases::byte_place(line);
-    }
-    transport_call(call, line)
 }
 
-fn transport_call(call: &[u8], line: &[u8]) -> bool {
-    if check::same(call, b"swap_components") {
-        return transport_cases::swap_components(line);
+// The same of a call on a layout or a picture. Most take a layout as it is checked, and `.._record` a record by hand.
+fn picture_holds(call: &str, case: &mut Case) -> Result<bool, AllocError> {
+    match call {
+        "check_layout" => Ok(layout_cases::check_layout(case)),
+        "check_record" => Ok(layout_cases::check_record(case)),
+        "index" => Ok(layout_cases::index(checked(case), case)),
+        "index_record" => Ok(layout_cases::index(record(case), case)),
+        "render" => picture_cases::render(checked(case), case),
+        "render_record" => picture_cases::render(record(case), case),
+        "write_planes" => picture_cases::write_planes(checked(case), case),
+        "write_record" => picture_cases::write_planes(record(case), case),
+        _ => Ok(false),
     }
-    if check::same(call, b"reverse_bits") {
-        return transport_cases::reverse_bits(line);
-    }
-    if check::same(call, b"commit_uninit") {
-        return transport_cases::commit_uninit(line);
-    }
-    sample_call(call, line)
-}
-
-fn sample_call(call: &[u8], line: &[u8]) -> bool {
-    if check::same(call, b"check_strip") {
-        return sample_cases::check_strip(line);
-    }
-    if check::same(call, b"convert") {
-        return sample_cases::transform(line, false);
-    }
-    if check::same(call, b"forward") {
-        return sample_cases::transform(line, true);
-    }
-    if check::same(call, b"reorder") {
-        return sample_cases::reorder(line);
-    }
-    if check::same(call, b"marks") {
-        return damage_cases::marks(line);
-    }
-    layout_call(call, line)
-}
-
-fn layout_call(call: &[u8], line: &[u8]) -> bool {
-    if check::same(call, b"check_layout") {
-        return layout_cases::check_layout(line);
-    }
-    if check::same(call, b"check_record") {
-        return layout_cases::check_record(line);
-    }
-    if check::same(call, b"index") {
-        return layout_cases::index(line, false);
-    }
-    if check::same(call, b"index_record") {
-        return layout_cases::index(line, true);
-    }
-    picture_call(call, line)
-}
-
-fn picture_call(call: &[u8], line: &[u8]) -> bool {
-    if check::same(call, b"render") {
-        return picture_cases::render(line, false);
-    }
-    if check::same(call, b"render_record") {
-        return picture_cases::render(line, true);
-    }
-    if check::same(call, b"write_planes") {
-        return picture_cases::write_planes(line, false);
-    }
-    if check::same(call, b"write_record") {
-        return picture_cases::write_planes(line, true);
-    }
-    false
-}
-
-// Whether the case of this line holds; a line that names no call does not.
-fn holds(line: &[u8]) -> bool {
-    word_call(text::token(line, 0), line)
 }
 
 // An empty line, and one that begins with '#', is no case.
 fn is_case(line: &[u8]) -> bool {
-    if line.len() == 0 {
-        return false;
-    }
-    line[0] != b'#'
+    line.first().is_some_and(|first| *first != b'#')
 }
 
-fn run(rt: &impl Print, t: Tally, line: &[u8]) -> io::Result<Tally> {
-    if is_case(line) {
-        return t.saw(rt, line, holds(line));
-    }
-    Ok(t)
+fn say_differs(rt: &impl Print, line: &[u8]) -> io::Result<()> {
+    rt.write_all(b"differs: ")?;
+    rt.write_all(line)?;
+    rt.write_all(b"\n")
 }
 
-fn run_all(rt: &impl Print, s: &[u8]) -> io::Result<Tally> {
-    let mut t = Tally::new();
-    let mut at: usize = 0;
-    while at < s.len() {
-        let end = text::find(s, at, b'\n', true);
-        t = run(rt, t, &s[at..end])?;
-        at = end + 1;
+fn run_all(rt: &(impl Print + AllocGlobal), text: &[u8]) -> io::Result<Tally> {
+    let mut tally = Tally::default();
+    for line in text.split(|byte| *byte == b'\n') {
+        if is_case(line) {
+            let held = holds(&mut Case::new(rt.alloc(), line))?;
+            tally.count(held);
+            if !held {
+                say_differs(rt, line)?;
+            }
+        }
     }
-    Ok(t)
+    Ok(tally)
 }
 
 fn main(rt: HostRuntime) -> io::Result<()> {
     let mut text = Vec::new(rt.alloc());
     rt.reader().read_to_end(&mut text)?;
-    let t = run_all(&rt, &text)?;
-    t.print(&rt)
+    let tally = run_all(&rt, text.as_slice())?;
+    println!(rt; "{tally}")
 }

@@ -1,36 +1,29 @@
-use crate::lent::{front, front_mut, holds, outcome};
-use crate::text;
-use crate::text::token;
+use crate::answers;
+use crate::case::Case;
+use std::alloc::AllocError;
 
 // swap_components BYTES WIDTH ROOM = NUMBER WRITTEN
-pub(crate) fn swap_components(line: &[u8]) -> bool {
-    let mut raw = [0u8; 64];
-    let n = text::bytes(token(line, 1), &mut raw);
-    let mut out = [170u8; 64];
-    let room = text::size(token(line, 3));
-    let got = outcome(swaps::swap_components(
-        front(&raw, n),
-        text::size(token(line, 2)),
-        front_mut(&mut out, room),
-    ));
-    got == text::number(token(line, 5)) && holds(&out, token(line, 6))
+pub(crate) fn swap_components(case: &mut Case) -> Result<bool, AllocError> {
+    let bytes = case.bytes()?;
+    let width = case.size();
+    let mut out = case.buffer()?;
+    let done = answers::done(swaps::swap_components(&bytes, width, &mut out));
+    Ok(case.answers(&done) && case.holds(out)?)
 }
 
 // reverse_bits BYTES ROOM = WRITTEN
-pub(crate) fn reverse_bits(line: &[u8]) -> bool {
-    let mut s = [170u8; 64];
-    text::bytes(token(line, 1), &mut s);
-    let room = text::size(token(line, 2));
-    transport::reverse_bits(front_mut(&mut s, room));
-    holds(&s, token(line, 4))
+pub(crate) fn reverse_bits(case: &mut Case) -> Result<bool, AllocError> {
+    let mut bytes = case.whole_buffer()?;
+    let room = case.size().min(bytes.len());
+    transport::reverse_bits(&mut bytes[..room]);
+    case.word();
+    case.holds(bytes)
 }
 
 // commit_uninit BYTES ROOM = NUMBER WRITTEN
-pub(crate) fn commit_uninit(line: &[u8]) -> bool {
-    let mut source = [0u8; 64];
-    let n = text::bytes(token(line, 1), &mut source);
-    let mut out = [170u8; 64];
-    let room = text::size(token(line, 2));
-    let got = outcome(transport::commit_uninit(front(&source, n), front_mut(&mut out, room)));
-    got == text::number(token(line, 4)) && holds(&out, token(line, 5))
+pub(crate) fn commit_uninit(case: &mut Case) -> Result<bool, AllocError> {
+    let source = case.bytes()?;
+    let mut out = case.buffer()?;
+    let done = answers::done(transport::commit_uninit(&source, &mut out));
+    Ok(case.answers(&done) && case.holds(out)?)
 }

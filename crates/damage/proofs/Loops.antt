@@ -20,23 +20,9 @@ use Rattle.damage.specs.Passes.{larger, Bits, OneEach, OnwardInto, since}
 use Rattle.laws.proofs.Lists.{each-table, FilledTo, filled_none, filled_next}
 use Rattle.damage.proofs.Marking.{mark_small, struck-one, marked-alone, marked-later}
 
--- the marks that samples have of their own bytes, up to n; `at` is where sample n's bytes begin
-pub record Owning (width : ℕ) (damage old : List ℕ) (at n : ℕ) (out : List ℕ) : Type 0 where
-  pub place : at ≡ n * width
-  pub marks : FilledTo (λ k. mark_byte (struck width damage k)) old n out
-
-pub owning_none : (width : ℕ) (damage old : List ℕ) → Owning width damage old 0 0 old
-owning_none width damage old = record { place = sym (zero-mul width); marks = filled_none _ old }
-
-module _ {width : ℕ} {damage old : List ℕ} {at n : ℕ} {out : List ℕ} (each : OneEach damage width old) (is : Owning width damage old at n out) where
-  pub own_room : n < length old → at + width ≤ length damage
-  own_room more = omega (arith, mul-le-mul_right width more, suc-mul n width, is.place, each)
-
-  pub own_turned : n < length old → (x : ℕ) → x ≡ mark_byte (struck_at width damage at) → Owning width damage old (at + width) (n + 1) (set out n x)
-  own_turned more x e = record {
-    place = rw add-one (omega (arith, is.place, suc-mul n width));
-    marks = filled_next is.marks more x (e ∙ ap (λ (k : ℕ). mark_byte (struck_at width damage k)) is.place);
-  }
+-- a sample's bytes are there
+pub own_room : (width : ℕ) (damage old : List ℕ) → OneEach damage width old → (n : ℕ) → n < length old → n * width + width ≤ length damage
+own_room width damage old each n more = omega (arith, mul-le-mul_right width more, suc-mul n width, each)
 
 -- the larger of two numbers, and of two marks: that of either
 pub larger_less : (a b : ℕ) → a < b → larger a b ≡ b

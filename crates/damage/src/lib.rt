@@ -43,15 +43,12 @@ fn mark_rows(
 {
     let row_marks = row_bytes / width;
     let mut count: usize = 0;
-    let mut at: usize = 0;
-    let mut n: usize = 0;
-    while at < damage.len() {
+    for row in 0..damage.len() / row_bytes {
+        let at = row * row_bytes;
+        let n = row * row_marks;
         let end = at + row_bytes;
         let last = n + row_marks;
-        let more = mark_row(&damage[at..end], channels, width, &mut marks[n..last]);
-        count += more;
-        at = end;
-        n = last;
+        count += mark_row(&damage[at..end], channels, width, &mut marks[n..last]);
     }
     count
 }

@@ -63,12 +63,8 @@ fn own_of(damage: &[u8], width: usize, marks: &mut [u8])
     requires { (served width ≡ true) × OneEach damage.now width marks.old }
     ensures { OwnInto damage.now width marks.old marks.new }
 {
-    let mut at: usize = 0;
-    let mut n: usize = 0;
-    while n < marks.len() {
-        marks[n] = mark_at(damage, at, width);
-        at += width;
-        n += 1;
+    for (n, mark) in marks.iter_mut().enumerate() {
+        *mark = mark_at(damage, n * width, width);
     }
 }
 

@@ -1,14 +1,13 @@
 -- Each promise of this crate allows one answer. Assumes nothing.
-use Rattle.std.specs.Prelude.{Ok, Err}
 use Prim.Native.Nat.{ℕ}
-use Rattle.answer.proofs.Promised.{answer_once, kind, kind-number, once}
-use Rattle.answer.specs.Outcome.{Outcome, Step, done, refused, outcome, Answer, Done}
+use Rattle.answer.proofs.Promised.{answer_once}
+use Rattle.answer.specs.Outcome.{Step, Answer, Done}
 use Rattle.entries.specs.Entries.{DirectoryOpened, field_faults, field_from, value_of}
 use Rattle.entries.specs.declared.Directory.{Directory}
 use Rattle.entries.specs.declared.Field.{Field}
 use mathlib.Core.Bool.{Bool}
 use mathlib.Core.List.{List}
-use mathlib.Core.Path.{◌∙◌, ◌≡◌, ap, refl, sym}
+use mathlib.Core.Path.{◌∙◌, ◌≡◌, sym}
 
 pub open_directory_determined : (file : List ℕ) (page : ℕ) (a b : Answer Directory) → DirectoryOpened file page a → DirectoryOpened file page b → a ≡ b
 open_directory_determined file page a b p q = answer_once a b (p ∙ sym q)

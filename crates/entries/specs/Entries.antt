@@ -1,7 +1,7 @@
 -- A TIFF file's header, its directories, their entries, and the fields that they say (rules 14.1 to 14.6).
 -- Every definition is total: past the file's end 0 is read, and an earlier fault has decided by then. Assumes nothing.
 use Rattle.std.specs.Prelude.{ℕ, zero, suc, ◌+◌, ◌-◌, ◌*◌, ◌≡◌, Bool, true, false, not, ◌&&◌, ◌||◌, List, [], ◌∷◌, ◌++◌, length, eqb, ltb, leb}
-use Rattle.answer.specs.Outcome.{Outcome, done, refused, number, Fault, unless, invalid, truncated, limit, pick, outcome, Answer}
+use Rattle.answer.specs.Outcome.{Fault, unless, invalid, truncated, limit, pick, outcome, Answer}
 use Rattle.laws.specs.Turns.{every, faults_below}
 use Rattle.words.specs.Word.{word_at}
 use Rattle.entries.specs.declared.Directory.{Directory}

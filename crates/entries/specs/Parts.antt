@@ -1,7 +1,13 @@
 -- What the crate's own functions need and answer. Assumes nothing.
-use Rattle.std.specs.Prelude.{ℕ, ◌≤◌, ◌<◌, ◌≡◌, Bool, List, length}
+use Rattle.std.specs.Prelude.{ℕ, ◌≤◌, ◌<◌, ◌≡◌, Bool, true, false, List, length}
 use Rattle.answer.specs.Outcome.{unless, outcome, Answer}
 use Rattle.entries.specs.declared.Directory.{Directory}
+use Rattle.entries.specs.declared.Need.{Need}
+use Rattle.entries.specs.declared.Need.TheVariants.{Required, Defaulted}
+use Rattle.entries.specs.declared.Kinds.{Kinds}
+use Rattle.entries.specs.declared.Kinds.TheVariants.{Shorts, LongsToo}
+use Rattle.entries.specs.declared.Amount.{Amount}
+use Rattle.entries.specs.declared.Amount.TheVariants.{One, Several}
 use Rattle.entries.specs.Entries.{tag_at, directory_at, directory_end, directory_faults}
 
 -- a directory that is all in the file, and an entry of it
@@ -19,3 +25,16 @@ pub record From (file : List ℕ) (d : Directory) (from tag : ℕ) : Type 0 wher
 
 abbrev pub OpenedAt : List ℕ → Bool → ℕ → Answer Directory → Type 0
 OpenedAt file le at answer = let d = directory_at file le at in outcome answer ≡ unless (directory_faults file d) d
+
+-- what is asked of a field, as `field_faults` says it
+abbrev pub is_required : Need → Bool
+is_required Required = true
+is_required Defaulted = false
+
+abbrev pub takes_longs : Kinds → Bool
+takes_longs Shorts = false
+takes_longs LongsToo = true
+
+abbrev pub is_several : Amount → Bool
+is_several One = false
+is_several Several = true

@@ -1,15 +1,15 @@
 // A TIFF file's header, its directories and their entries: the field of a tag, its values, and the faults that any field can have.
 #![tactic(auto)]
 
-use answer::{Refusal, fault, first_of};
+use answer::{Refusal, fault};
 
 mod numbers;
 mod walk;
 
-ghost use Rattle.std.specs.Prelude.{◌≡◌, ◌+◌, ◌≤◌, length};
+ghost use Rattle.std.specs.Prelude.{◌≡◌, ◌+◌, ◌≤◌, length, not, ◌&&◌, ◌||◌, eqb};
 ghost use Rattle.answer.specs.Outcome.{Step};
-ghost use Rattle.entries.specs.Entries.{tag_at, entry_from, is_there, values_at, number_at, field_at, missing as missingOf, field_from, value_of, field_faults, DirectoryOpened};
-ghost use Rattle.entries.specs.Parts.{Room, Entry};
+ghost use Rattle.entries.specs.Entries.{tag_at, entry_from, is_there, values_at, number_at, bytes_of, SHORT, LONG, field_at, missing as missingOf, field_from, value_of, field_faults, DirectoryOpened};
+ghost use Rattle.entries.specs.Parts.{Room, Entry, is_required, takes_longs, is_several};
 
 use numbers::{bytes, long, past, short};
 
@@ -33,7 +33,26 @@ pub struct Field {
     pub value: u32,
 }
 
-// The types of fields that are read.
+// What is asked of a field: that it is there, or it has a default; numbers of two bytes, or of four too; one value, or some.
+#[derive(Clone, Copy)]
+pub enum Need {
+    Required,
+    Defaulted,
+}
+
+#[derive(Clone, Copy)]
+pub enum Kinds {
+    Shorts,
+    LongsToo,
+}
+
+#[derive(Clone, Copy)]
+pub enum Amount {
+    One,
+    Several,
+}
+
+// The types of fields that are read: numbers, since a file can have any of 65536, and `field_faults` speaks of them so.
 const SHORT: u16 = 3;
 
 const LONG: u16 = 4;
@@ -59,25 +78,19 @@ fn seek(file: &[u8], d: Directory, from: usize, tag: u16) -> usize
     ensures { result ≡ entry_from file.now d from tag }
 {
     let n = d.n as usize;
-    let mut i = from;
-    while i < n {
+    for i in from..n {
         if tag <= tag_at(file, d, i) {
             return i;
         }
-        i += 1;
     }
-    i
+    from.max(n)
 }
 
 fn is_there(file: &[u8], d: Directory, tag: u16, i: usize) -> bool
     requires { Room file.now d }
     ensures { result ≡ is_there file.now d tag i }
 {
-    if i < d.n as usize {
-        tag_at(file, d, i) == tag
-    } else {
-        false
-    }
+    i < d.n as usize && tag_at(file, d, i) == tag
 }
 
 // Where so many bytes of values stand: in the entry, or where it says.
@@ -92,15 +105,15 @@ fn values_at(file: &[u8], le: bool, inside: usize, bytes: usize) -> usize
     }
 }
 
-// The number in an entry.
-fn value_at(file: &[u8], le: bool, kind: u16, inside: usize) -> u32
-    requires { inside + 4 ≤ length file.now }
-    ensures { result ≡ number_at file.now le kind inside }
+// The number of a type at a place.
+fn number_at(file: &[u8], le: bool, kind: u16, at: usize) -> u32
+    requires { at + bytes_of kind 1 ≤ length file.now }
+    ensures { result ≡ number_at file.now le kind at }
 {
     if kind == SHORT {
-        short(file, le, inside) as u32
+        short(file, le, at) as u32
     } else {
-        long(file, le, inside)
+        long(file, le, at)
     }
 }
 
@@ -112,7 +125,7 @@ fn field_at(file: &[u8], d: Directory, i: usize) -> Field
     let kind = short(file, d.le, e + 2);
     let count = long(file, d.le, e + 4);
     let place = values_at(file, d.le, e + 8, bytes(kind, count));
-    let value = value_at(file, d.le, kind, e + 8);
+    let value = number_at(file, d.le, kind, e + 8);
     Field {
         entry: i,
         there: true,
@@ -155,37 +168,61 @@ fn missing(entry: usize, default: u32) -> Field
 pub fn value(file: &[u8], le: bool, f: Field, j: u32) -> u32
     ensures { result ≡ value_of file.now le f j }
 {
-    let at = f.place;
-    let i = j as usize;
-    if f.kind == SHORT {
-        numbers::short_in(file, le, at, i)
-    } else {
-        numbers::long_in(file, le, at, i)
+    let size = bytes(f.kind, 1);
+    let before = bytes(f.kind, j);
+    if past(file.len(), f.place, before + size) {
+        return 0;
+    }
+    number_at(file, le, f.kind, f.place + before)
+}
+
+impl Field {
+    // Whether it is missing, though it must be there.
+    fn lacks(self, need: Need) -> bool
+        ensures { result ≡ (is_required need && not self.there) }
+    {
+        match need {
+            Need::Required => !self.there,
+            Need::Defaulted => false,
+        }
+    }
+
+    // Whether its type is one that is read.
+    fn is_of(self, kinds: Kinds) -> bool
+        ensures { result ≡ (eqb self.kind SHORT || takes_longs kinds && eqb self.kind LONG) }
+    {
+        match kinds {
+            Kinds::Shorts => self.kind == SHORT,
+            Kinds::LongsToo => (self.kind == SHORT) | (self.kind == LONG),
+        }
+    }
+
+    // Whether it has another count of values than asked.
+    fn miscounts(self, amount: Amount) -> bool
+        ensures { result ≡ (is_several amount && eqb self.count 0 || not (is_several amount) && not (eqb self.count 1)) }
+    {
+        match amount {
+            Amount::One => self.count != 1,
+            Amount::Several => self.count == 0,
+        }
     }
 }
 
 // The faults of any field in a file of a size.
 pub fn check_field(
     size: usize,
-    required: bool,
-    longs: bool,
-    several: bool,
+    need: Need,
+    kinds: Kinds,
+    amount: Amount,
     f: Field,
 ) -> Result<(), Refusal>
-    ensures { Step (field_faults size required longs several f) result }
+    ensures { Step (field_faults size (is_required need) (takes_longs kinds) (is_several amount) f) result }
 {
-    let missing = fault(required & !f.there, Refusal::Invalid);
-    let kind = fault(
-        !((f.kind == SHORT) | (longs & (f.kind == LONG))),
-        Refusal::Invalid,
-    );
-    let count = fault(
-        (several & (f.count == 0)) | (!several & (f.count != 1)),
-        Refusal::Invalid,
-    );
-    let room = fault(
+    fault(f.lacks(need), Refusal::Invalid)?;
+    fault(!f.is_of(kinds), Refusal::Invalid)?;
+    fault(f.miscounts(amount), Refusal::Invalid)?;
+    fault(
         past(size, f.place, bytes(f.kind, f.count)),
         Refusal::Truncated,
-    );
-    first_of(missing, first_of(kind, first_of(count, room)))
+    )
 }

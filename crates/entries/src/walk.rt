@@ -6,8 +6,8 @@ ghost use Rattle.entries.specs.Entries.{next_place, ascending as ascendingOf, he
 ghost use Rattle.entries.specs.Parts.{Room, OpenedAt};
 
 use crate::numbers::{long, short};
-use crate::{Directory, Opened, tag_at};
-use answer::{Refusal, fault, first_of};
+use crate::{Directory, tag_at};
+use answer::{Refusal, fault};
 
 // The highest number of a page.
 const LAST_PAGE: usize = 15;
@@ -31,10 +31,8 @@ pub(crate) fn check_header(file: &[u8], page: usize) -> Result<(), Refusal>
     }
     let mark = short(file, true, 0);
     let version = short(file, mark == II, 2);
-    first_of(
-        fault(!((mark == II) | (mark == MM)), Refusal::Invalid),
-        fault(version != 42, Refusal::Invalid),
-    )
+    fault(!((mark == II) | (mark == MM)), Refusal::Invalid)?;
+    fault(version != 42, Refusal::Invalid)
 }
 
 // Where the next directory stands.
@@ -50,14 +48,12 @@ fn ascending(file: &[u8], d: Directory) -> bool
     requires { Room file.now d }
     ensures { result ≡ ascendingOf file.now d }
 {
-    let n = d.n as usize;
-    let mut sound = true;
-    let mut i: usize = 0;
-    while i + 1 < n {
-        sound = sound & (tag_at(file, d, i) < tag_at(file, d, i + 1));
-        i += 1;
+    for i in 1..d.n as usize {
+        if tag_at(file, d, i) <= tag_at(file, d, i - 1) {
+            return false;
+        }
     }
-    sound
+    true
 }
 
 // The directory at a place.
@@ -90,11 +86,9 @@ pub(crate) fn walk(file: &[u8], le: bool, page: usize) -> Result<Directory, Refu
     ensures { outcome result ≡ unless (faults_below (page + 1) (on_the_way file.now le)) (directory_at file.now le (place file.now le page)) }
 {
     let mut at = long(file, le, 4);
-    let mut p: usize = 0;
-    while p < page {
+    for _p in 0..page {
         let d = open_at(file, le, at)?;
-at = next_place(file, d)
-        p += 1;
+        at = next_place(file, d);
     }
     open_at(file, le, at)
 }

@@ -1,7 +1,7 @@
 -- Items in groups of a size: where an item stands, and which group and which item a place is. Assumes nothing.
 use Prim.Native.Nat.{ℕ, zero, suc, ◌+◌, ◌-◌, ◌*◌, ◌/◌, ◌%◌, ◌≤◌, ◌<◌}
 use mathlib.Core.Path.{◌≡◌, sym, ap, ◌∙◌}
-use native.Mathlib.Nat.{mul_comm, mul_assoc, mul-mod_left, div-mul-le_self, le-div_iff_mul-le, mul-zero, mul-suc, mul-le-mul_left, mul-le-mul_right, add-mul, one-mul, zero-add, add-zero, div-add-mod, div-add-mod', mod-lt, add-mul-mod_self_right, mul-pos, div-lt_iff_lt-mul, mul-add-div_right, div-eq_of_lt, mul-add-mod_self_right, mod-add-mod, mod-eq_of_lt, dvd_of_mod-eq-zero, mod-eq-zero_of_dvd, dvd_trans, dvd-mul_left}
+use native.Mathlib.Nat.{mul_comm, mul_assoc, mul-mod_left, div-mul-le_self, le-div_iff_mul-le, mul-zero, mul-suc, mul-le-mul_left, mul-le-mul_right, add-mul, one-mul, suc-mul, zero-add, add-zero, div-add-mod, div-add-mod', mod-lt, add-mul-mod_self_right, mul-pos, div-lt_iff_lt-mul, mul-add-div_right, div-eq_of_lt, mul-add-mod_self_right, mod-add-mod, mod-eq_of_lt, dvd_of_mod-eq-zero, mod-eq-zero_of_dvd, dvd_trans, dvd-mul_left}
 use native.Mathlib.Decide.{dec_lt}
 use native.Mathlib.Omega.{arith}
 use borrow.Author.Tests.{eq-eqb, ne_eqb}
@@ -104,3 +104,13 @@ rest_of_rest k per m =
     let row = per * m in
     let all : k ≡ k % row + k / row * per * m = omega (arith, div-add-mod' k row, mul_assoc (k / row) per m) in
     sym (ap (λ (n : ℕ). n % m) all ∙ add-mul-mod_self_right (k % row) (k / row * per) m)
+
+-- groups of a width, a turn for each: where the next begins, that one is there, and what all of them come to
+pub turn_next : (n width : ℕ) → (n + 1) * width ≡ n * width + width
+turn_next n width = omega (arith, add-mul n 1 width, one-mul width)
+
+pub turn_room : (n width all : ℕ) → n < all / width → n * width + width ≤ all
+turn_room n width all h = omega (arith, mul-le-mul_right width h, suc-mul n width, div-add-mod' all width)
+
+pub turns_all : (width all : ℕ) → all % width ≡ 0 → all / width * width ≡ all
+turns_all width all whole = omega (arith, div-add-mod' all width, whole)

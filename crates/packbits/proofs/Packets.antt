@@ -11,14 +11,16 @@ use lib.ListN.{length, get_or, take, drop, length-drop, length-append}
 use lib.Seq.{get_or-drop, drop-drop, length-take-le, take_all}
 use lib.Dec.{eqb, ltb, leb}
 use Rattle.answer.specs.declared.Refusal.TheVariants.{Invalid, Truncated}
-use Rattle.answer.specs.Outcome.{Fault, Sound, none, next, First, here, pick, truncated, fault_of, Step, InOrder, Done}
+use Rattle.answer.specs.Outcome.{Sound, none, next, First, here, pick, fault_of, Step, Done}
 use Rattle.answer.proofs.Promised.{refusing, first_more, sound-front, sound_back, sound-here, sound_rest}
 use Rattle.answer.specs.Table.{table}
 use Rattle.answer.proofs.Filling.{length-table}
 use Rattle.laws.proofs.Faults.{Past, past_none, past_more, past_step}
 use Rattle.laws.proofs.Says.{and_left, and_right}
 use Rattle.packbits.specs.Rows.{fills, takes, Packet, header, behind, packets_upto, packets, packet_faults, packet_bytes, faults_of, bytes_of, taken_by, row_faults, row_bytes, used, rows_faults, rows_bytes}
-use Rattle.packbits.specs.Parts.{begun, whole_literal, does_nothing, bytes_at, Placed}
+use Rattle.packbits.specs.declared.reading.Header.{Header}
+use Rattle.packbits.specs.declared.reading.Header.TheVariants.{Copies, Rests, Repeats}
+use Rattle.packbits.specs.Parts.{begun, header_of, header_fills, header_takes, whole_literal, does_nothing, bytes_at, Placed}
 use Rattle.packbits.proofs.Onward.{first-at, used_up, Upto, upto_none, upto_on, upto_end}
 
 -- a packet takes a byte or more
@@ -32,23 +34,39 @@ takes-some h = by (ltb h 128) (eqb h 128)
     by false false = omega arith
 
 -- what a first byte says, once it is known which kind it is of
-pub record Header (h filled taken : ℕ) : Type 0 where
+pub record Kind (h filled taken : ℕ) : Type 0 where
   pub fills_so : fills h ≡ filled
   pub takes_so : takes h ≡ taken
 
-pub copies : (h : ℕ) → h < 128 → Header h (h + 1) (h + 2)
+pub copies : (h : ℕ) → h < 128 → Kind h (h + 1) (h + 2)
 unfolding fills takes
 copies h l = let t = lt-ltb h 128 l in record { fills_so = rw t; takes_so = rw t }
 
-pub rests : (h : ℕ) → h ≡ 128 → Header h 0 1
+pub rests : (h : ℕ) → h ≡ 128 → Kind h 0 1
 unfolding fills takes
 rests h e = rw e (record { fills_so = refl; takes_so = refl })
 
-pub repeats : (h : ℕ) → 128 < h → Header h (257 - h) 2
+pub repeats : (h : ℕ) → 128 < h → Kind h (257 - h) 2
 unfolding fills takes
 repeats h l =
     let t = le-ltb h 128 (omega arith) in
     let u = ne_eqb h 128 (λ e. omega arith) in record { fills_so = rw (t, u); takes_so = rw (t, u) }
+
+-- which `Header::from` tells
+pub said : (byte : ℕ) → Kind byte (header_fills (header_of byte)) (header_takes (header_of byte))
+unfolding fills takes
+said byte =
+    record { fills_so = filled (ltb byte 128) (eqb byte 128); takes_so = taken (ltb byte 128) (eqb byte 128) }
+  where
+    filled : (a b : Bool) → pick a (byte + 1) (pick b 0 (257 - byte)) ≡ header_fills (pick a (Copies (byte + 1)) (pick b Rests (Repeats (257 - byte))))
+    filled true b = refl
+    filled false true = refl
+    filled false false = refl
+
+    taken : (a b : Bool) → pick a (byte + 2) (pick b 1 2) ≡ header_takes (pick a (Copies (byte + 1)) (pick b Rests (Repeats (257 - byte))))
+    taken true b = omega arith
+    taken false true = refl
+    taken false false = refl
 
 -- what a packet without a fault is
 pub record Fits (p : Packet) : Type 0 where
@@ -123,13 +141,11 @@ unfolding packet_faults
 missing packed at left h =
     record { passed = refusing (packet_faults (begun packed at left)) tt (here (eq-eqb (length (drop at packed)) 0 (length-drop at packed ∙ omega arith))) }
 
-pub there : (packed : List ℕ) (at left : ℕ) {f t : ℕ} {a b r : Done} → at < length packed → f ≡ fills (get_or packed at 0) → t ≡ takes (get_or packed at 0) → Step (fault_of (ltb left f) Invalid ∷ []) a → Step (fault_of (ltb (length packed - at) t) Truncated ∷ []) b → InOrder a b r → Step (packet_faults (begun packed at left)) r
+pub there : (packed : List ℕ) (at left : ℕ) {header : Header} {f t : ℕ} {r : Done} → at < length packed → header ≡ header_of (get_or packed at 0) → f ≡ header_fills header → t ≡ header_takes header → Step (fault_of (ltb left f) Invalid ∷ fault_of (ltb (length packed - at) t) Truncated ∷ []) r → Step (packet_faults (begun packed at left)) r
 unfolding packet_faults
-there packed at left {f} {t} {a} {b} {r} h fill take-is p q both =
-    rw (length-drop at packed, ne_eqb (length packed - at) 0 (λ e. omega arith), header_at packed at left, ← fill, ← take-is) (after (both _ _ p q))
-  where
-    after : {fs : List Fault} → Step fs r → Step (truncated false ∷ fs) r
-    after s = record { passed = s.passed }
+there packed at left {header} {f} {t} {r} h is fill take-is s =
+    let read : Kind (get_or packed at 0) f t = rw (fill, take-is, is) (said (get_or packed at 0)) in
+    rw (length-drop at packed, ne_eqb (length packed - at) 0 (λ e. omega arith), header_at packed at left, read.fills_so, read.takes_so) (record { passed = s.passed })
 
 -- the packets from one without a fault on
 pub next-at : (packed : List ℕ) (at left : ℕ) → 0 < left → Sound (packet_faults (begun packed at left)) → let h = get_or packed at 0 in packets (begun packed at left) ≡ begun packed at left ∷ packets (begun packed (at + takes h) (left - fills h))
@@ -160,6 +176,19 @@ module _ {packed : List ℕ} {n at left : ℕ} (l : Looked packed n at left) whe
         past = past_more (packet_faults p) (rw next at l.past) s;
         taken = l.taken ∙ ap (λ (ps : List Packet). at + taken_by ps) next ∙ ap (λ (k : ℕ). at + (takes k + taken_by (packets (begun packed (at + takes h) (left - fills h))))) (header_at packed at left) ∙ sym (add_assoc at (takes h) _);
       }
+
+-- the same of what its first byte says
+module _ (packed : List ℕ) (at left : ℕ) {header : Header} (is : header ≡ header_of (get_or packed at 0)) (s : Sound (packet_faults (begun packed at left))) where
+  read : Kind (get_or packed at 0) (header_fills header) (header_takes header)
+  read = rw is (said (get_or packed at 0))
+
+  pub fits_said : (at < length packed) × (0 < header_takes header) × (header_fills header ≤ left) × (at + header_takes header ≤ length packed)
+  fits_said =
+      let fit = fits-at packed at left s in
+      (fit.inside, rw read.takes_so at fit.some, rw read.fills_so at fit.passes, rw read.takes_so at fit.whole)
+
+  pub looked_said : {n : ℕ} → Looked packed n at left → 0 < left → Looked packed n (at + header_takes header) (left - header_fills header)
+  looked_said l more = rw (read.takes_so, read.fills_so) at (looked_on l more s)
 
 pub looked_end : {packed : List ℕ} {n at left : ℕ} → Looked packed n at left → left ≡ 0 → Sound (row_faults packed n) × (used packed n ≡ at)
 looked_end {packed} {n} {at} {left} l e =
@@ -270,14 +299,14 @@ sound-at packed at left inside passes whole =
     sound_packet (begun packed at left) (rw (length-drop at packed) (omega arith)) (rw same passes) (rw (same, length-drop at packed) (omega arith))
 
 -- a look past a packet of which the first byte was seen
-pub looked_past : {packed : List ℕ} {n at left f t : ℕ} → Looked packed n at left → 0 < left → Header (get_or packed at 0) f t → at < length packed → f ≤ left → at + t ≤ length packed → Looked packed n (at + t) (left - f)
+pub looked_past : {packed : List ℕ} {n at left f t : ℕ} → Looked packed n at left → 0 < left → Kind (get_or packed at 0) f t → at < length packed → f ≤ left → at + t ≤ length packed → Looked packed n (at + t) (left - f)
 looked_past {packed} {n} {at} {left} l more kind inside passes whole =
     rw (kind.fills_so, kind.takes_so) at (looked_on l more (sound-at packed at left inside (rw kind.fills_so passes) (rw kind.takes_so whole)))
 
 pub record WholeLiteral (packed : List ℕ) (at left : ℕ) : Type 0 where
   pub there : at + 129 ≤ length packed
   pub fits : 128 ≤ left
-  pub kind : Header (get_or packed at 0) 128 129
+  pub kind : Kind (get_or packed at 0) 128 129
 
 pub whole_literal-is : (packed : List ℕ) (at left : ℕ) → whole_literal packed at left ≡ true → WholeLiteral packed at left
 whole_literal-is packed at left e =
@@ -291,7 +320,7 @@ whole_literal-is packed at left e =
 
 pub record Nothing (packed : List ℕ) (at : ℕ) : Type 0 where
   pub inside : at < length packed
-  pub kind : Header (get_or packed at 0) 0 1
+  pub kind : Kind (get_or packed at 0) 0 1
 
 pub nothing_is : (packed : List ℕ) (at : ℕ) → does_nothing packed at ≡ true → Nothing packed at
 nothing_is packed at e =
@@ -299,19 +328,33 @@ nothing_is packed at e =
     let none = eqb (get_or packed at 0) 128 in
     record { inside = ltb-true at (length packed) (and_left inside none e); kind = rests _ (eqb-true (get_or packed at 0) 128 (and_right inside none e)) }
 
--- what a packet at a place fills the row with, by its kind
+-- what a packet at a place fills the row with, by what its first byte says
 module _ (packed : List ℕ) (at left : ℕ) where
   abbrev h : ℕ
   h = get_or packed at 0
 
-  pub copied_bytes : h < 128 → packet_bytes (begun packed at left) ≡ bytes_at packed (at + 1) (h + 1)
-  unfolding packet_bytes
-  copied_bytes l =
-      rw (header_at packed at left, lt-ltb h 128 l, (copies h l).fills_so) (ap (take (h + 1)) (drop-drop 1 at packed))
+  abbrev pub header_bytes : Header → List ℕ
+  header_bytes (Copies n) = bytes_at packed (at + 1) n
+  header_bytes Rests = []
+  header_bytes (Repeats n) = table n (λ k. get_or packed (at + 1) 0)
 
-  pub repeated_bytes : {f t : ℕ} → 128 ≤ h → Header h f t → packet_bytes (begun packed at left) ≡ table f (λ k. get_or packed (at + 1) 0)
-  unfolding packet_bytes
-  repeated_bytes l kind = rw (header_at packed at left, le-ltb h 128 l, ← kind.fills_so) (ap (λ (b : ℕ). table (fills h) (λ k. b)) (get_or-drop at packed 1 0))
+  bytes_said : packet_bytes (begun packed at left) ≡ header_bytes (header_of h)
+  unfolding packet_bytes fills
+  bytes_said = rw (header_at packed at left) (by (ltb h 128) (eqb h 128))
+    where
+      by : (a b : Bool) → let n = pick a (h + 1) (pick b 0 (257 - h)) in pick a (take n (drop 1 (drop at packed))) (table n (λ k. get_or (drop at packed) 1 0)) ≡ header_bytes (pick a (Copies (h + 1)) (pick b Rests (Repeats (257 - h))))
+      by true b = ap (take (h + 1)) (drop-drop 1 at packed)
+      by false true = refl
+      by false false = ap (λ (v : ℕ). table (257 - h) (λ k. v)) (get_or-drop at packed 1 0)
+
+-- and no packet fills more than 128 bytes
+pub header_few : (byte : ℕ) → header_fills (header_of byte) ≤ 128
+header_few byte = by (ltb byte 128) refl (eqb byte 128) refl
+  where
+    by : (a : Bool) → ltb byte 128 ≡ a → (b : Bool) → eqb byte 128 ≡ b → header_fills (pick a (Copies (byte + 1)) (pick b Rests (Repeats (257 - byte)))) ≤ 128
+    by true e b f = omega (arith, ltb-true byte 128 e)
+    by false e true f = omega arith
+    by false e false f = omega (arith, ltb-false byte 128 e, eqb-false byte 128 f)
 
 -- a row that packets have filled up to a place
 pub record Filling (packed row₀ : List ℕ) (at from : ℕ) (row : List ℕ) : Type 0 where
@@ -337,24 +380,38 @@ module _ {packed row₀ row : List ℕ} {at from : ℕ} (fill : Filling packed r
     pub packet_fits : FitsAt packed at left
     packet_fits = fits-at packed at left packet_sound
 
-    -- where the packet ends, once its kind is known
-    pub ends : {f t : ℕ} → Header (get_or packed at 0) f t → (at + t ≤ length packed) × (from + f ≤ length row)
-    ends kind =
-        let fit = packet_fits in
-        (rw (← kind.takes_so) fit.whole, omega (arith, fit.passes, kind.fills_so, fill.upto.same))
+    -- where the packet ends, once its first byte was read
+    module _ {header : Header} (is : header ≡ header_of (get_or packed at 0)) where
+      read-now : Kind (get_or packed at 0) (header_fills header) (header_takes header)
+      read-now = rw is (said (get_or packed at 0))
 
-    pub filling_on : {new bytes : List ℕ} {f t : ℕ} → Header (get_or packed at 0) f t → packet_bytes (begun packed at left) ≡ bytes → Placed from bytes row new → Filling packed row₀ (at + t) (from + f) new
-    filling_on {new} {bytes} {f} {t} kind is put =
-        let p = begun packed at left in
-        let next : packets p ≡ p ∷ packets (begun packed (at + t) (left - f)) = rw (kind.fills_so, kind.takes_so) at (next-at packed at left some_left packet_sound) in
-        let rest : left - f ≡ length row₀ - (from + f) = omega arith in
-        let long : length bytes ≡ f = ap length (sym is) ∙ length_packet p (fits p packet_sound) ∙ ap fills (header_at packed at left) ∙ kind.fills_so in
-        let on : bytes_of (packets p) ≡ bytes ++ bytes_of (packets (begun packed (at + t) (left - f))) = ap bytes_of next ∙ ap (λ (l : List ℕ). l ++ bytes_of (packets (begun packed (at + t) (left - f)))) is in
-        record {
-          inside = (ends kind).0;
-          sound = rw (← rest) (sound_back (packet_faults p) _ (rw next at fill.sound));
-          upto = rw (← rest) (upto_on bytes (rw on at fill.upto) long (omega (arith, (ends kind).1, fill.upto.same)) put);
-        }
+      pub ends : (at + header_takes header ≤ length packed) × (from + header_fills header ≤ length row)
+      ends =
+          let fit = packet_fits in
+          (rw (← read-now.takes_so) fit.whole, omega (arith, fit.passes, read-now.fills_so, fill.upto.same))
+
+      pub takes_more : 0 < header_takes header
+      takes_more = rw read-now.takes_so at (takes-some (get_or packed at 0))
+
+      pub few : header_fills header ≤ 128
+      few = rw is (header_few (get_or packed at 0))
+
+      pub filling_on : {new : List ℕ} → Placed from (header_bytes packed at left header) row new → Filling packed row₀ (at + header_takes header) (from + header_fills header) new
+      filling_on {new} put =
+          let p = begun packed at left in
+          let f = header_fills header in
+          let t = header_takes header in
+          let bytes = header_bytes packed at left header in
+          let holds : packet_bytes p ≡ bytes = rw is (bytes_said packed at left) in
+          let next : packets p ≡ p ∷ packets (begun packed (at + t) (left - f)) = rw (read-now.fills_so, read-now.takes_so) at (next-at packed at left some_left packet_sound) in
+          let rest : left - f ≡ length row₀ - (from + f) = omega arith in
+          let long : length bytes ≡ f = ap length (sym holds) ∙ length_packet p (fits p packet_sound) ∙ ap fills (header_at packed at left) ∙ read-now.fills_so in
+          let on : bytes_of (packets p) ≡ bytes ++ bytes_of (packets (begun packed (at + t) (left - f))) = ap bytes_of next ∙ ap (λ (l : List ℕ). l ++ bytes_of (packets (begun packed (at + t) (left - f)))) holds in
+          record {
+            inside = ends.0;
+            sound = rw (← rest) (sound_back (packet_faults p) _ (rw next at fill.sound));
+            upto = rw (← rest) (upto_on bytes (rw on at fill.upto) long (omega (arith, ends.1, fill.upto.same)) put);
+          }
 
   pub filling_end : length row ≤ from → row ≡ row_bytes packed (length row₀)
   filling_end end =

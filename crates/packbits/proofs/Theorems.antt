@@ -17,7 +17,7 @@ use Rattle.laws.proofs.Turns.{every_one}
 use Rattle.laws.proofs.Says.{and_left, and_right}
 use Rattle.packbits.specs.Rows.{fills, takes, Packet, header, behind, packets, packet_bytes, bytes_of, taken_by, row_faults, row_bytes, used, RowUnpacked}
 use Rattle.packbits.specs.Plans.{Planned, plan_of, kept, keeps, packet_of, plan_bytes, plain_plan, literals_of, plan_faults, pack_faults, PlanWritten, RowPacked}
-use Rattle.packbits.proofs.Determined.{answer_once}
+use Rattle.answer.proofs.Promised.{answer_once}
 use Rattle.packbits.proofs.Packets.{copies, repeats, takes-some, goes_on, sound_packet}
 use Rattle.packbits.proofs.Planning.{Kept, kept-is}
 use Rattle.packbits.proofs.Putting.{plain-keeps, plain-bytes}

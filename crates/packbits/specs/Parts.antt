@@ -1,12 +1,28 @@
 -- What the crate's own functions need and answer. Assumes nothing.
 use Rattle.std.specs.Prelude.{ℕ, ◌+◌, ◌-◌, ◌≤◌, ◌≡◌, Bool, true, ◌&&◌, List, [], ◌∷◌, ◌++◌, length, get_or, take, drop, eqb, ltb, leb}
 use Rattle.answer.specs.Outcome.{Fault, Sound, output_too_small, pick}
+use Rattle.packbits.specs.declared.reading.Header.{Header}
+use Rattle.packbits.specs.declared.reading.Header.TheVariants.{Copies, Rests, Repeats}
 use Rattle.packbits.specs.Rows.{Packet, row_faults, row_bytes}
 use Rattle.packbits.specs.Plans.{Planned, plan_of, kept, keeps, packet_of, plan_bytes, literals_of, plain_plan}
 
 -- the packet at a place of the input
 abbrev pub begun : List ℕ → ℕ → ℕ → Packet
 begun packed at left = record { input = drop at packed; left = left }
+
+-- what a first byte says, and how many bytes of the row its packet fills and of the input it takes
+abbrev pub header_of : ℕ → Header
+header_of h = pick (ltb h 128) (Copies (h + 1)) (pick (eqb h 128) Rests (Repeats (257 - h)))
+
+abbrev pub header_fills : Header → ℕ
+header_fills (Copies n) = n
+header_fills Rests = 0
+header_fills (Repeats n) = n
+
+abbrev pub header_takes : Header → ℕ
+header_takes (Copies n) = n + 1
+header_takes Rests = 1
+header_takes (Repeats n) = 2
 
 -- a buffer into which bytes were put from a place on
 abbrev pub put_at : ℕ → List ℕ → List ℕ → List ℕ

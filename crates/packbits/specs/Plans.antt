@@ -1,6 +1,6 @@
 -- A row that is packed: a plan of packets, the rules that it keeps, and what it writes (rules 17.7 to 17.9). Assumes nothing.
 use Rattle.std.specs.Prelude.{ℕ, zero, suc, ◌+◌, ◌-◌, ◌/◌, ◌≤◌, ◌<◌, ◌≡◌, Bool, not, ◌&&◌, List, [], ◌∷◌, ◌++◌, length, get_or, take, drop, eqb, ltb, leb}
-use Rattle.answer.specs.Outcome.{Outcome, done, refused, Fault, unless, invalid, output_too_small, number, pick, Promise, outcome, Answer}
+use Rattle.answer.specs.Outcome.{Fault, unless, invalid, output_too_small, pick, Promise, outcome, Answer}
 use Rattle.laws.specs.Turns.{every, sum}
 
 -- a packet that is planned: literal (0) or repeat (1), and of how many bytes of the row

@@ -1,6 +1,6 @@
 -- A PackBits row that is read: its packets, what is wrong with each, and what they fill (rules 17.1 to 17.6). Assumes nothing.
 use Rattle.std.specs.Prelude.{ℕ, zero, suc, ◌+◌, ◌-◌, ◌≡◌, not, List, [], ◌∷◌, ◌++◌, length, get_or, take, drop, eqb, ltb}
-use Rattle.answer.specs.Outcome.{Outcome, done, refused, Fault, unless, invalid, truncated, number, pick, Step, Promise, outcome, Answer, Done}
+use Rattle.answer.specs.Outcome.{Fault, unless, invalid, truncated, pick, Step, Promise, outcome, Answer, Done}
 use Rattle.answer.specs.Table.{table}
 
 -- how many bytes of the row a packet fills, and how many of the input it takes, itself among them, by its first byte

@@ -14,7 +14,7 @@ ghost use Rattle.packbits.specs.Rows.{RowMeasured, RowUnpacked, RowsChecked};
 ghost use Rattle.packbits.specs.Plans.{literals_of, PlanWritten, RowPacked};
 
 use plans::{check_plan, plan_length};
-use reading::{check_packet, does_nothing, fill_row, fills, takes, whole_literal};
+use reading::{Header, check_packet, does_nothing, fill_row, whole_literal};
 use writing::{put_literals, put_plan};
 
 // What a row of so many bytes takes of an input that it begins.
@@ -32,9 +32,9 @@ pub fn row_used(packed: &[u8], row_bytes: usize) -> Result<usize, Refusal>
         } else {
             check_packet(packed, at, left)?;
 
-            let header = packed[at];
-            left -= fills(header);
-            at += takes(header);
+            let header = Header::from(packed[at]);
+            left -= header.fills();
+            at += header.takes();
         }
     }
     Ok(at)
@@ -44,23 +44,17 @@ pub fn row_used(packed: &[u8], row_bytes: usize) -> Result<usize, Refusal>
 fn turns(rows: usize, row_bytes: usize) -> usize
     ensures { result ≡ pick (eqb row_bytes 0) 0 rows }
 {
-    match row_bytes == 0 {
-        true => 0,
-        false => rows,
-    }
+    if row_bytes == 0 { 0 } else { rows }
 }
 
 // Rows that follow each other to the input's end.
 pub fn check_rows(packed: &[u8], rows: usize, row_bytes: usize) -> Result<(), Refusal>
     ensures { RowsChecked packed.now rows row_bytes result }
 {
-    let all = turns(rows, row_bytes);
     let mut at: usize = 0;
-    let mut k: usize = 0;
-    while k < all {
+    for _k in 0..turns(rows, row_bytes) {
         let n = row_used(&packed[at..], row_bytes)?;
         at += n;
-        k += 1;
     }
     fault(at != packed.len(), Refusal::Invalid)
 }
@@ -97,10 +91,7 @@ pub fn write_plan(
 fn literals_of(n: usize) -> usize
     ensures { result ≡ literals_of n }
 {
-    if n % 128 == 0 {
-        return n / 128;
-    }
-    n / 128 + 1
+    n.div_ceil(128)
 }
 
 // A row as literals of 128 bytes and a shorter last one.

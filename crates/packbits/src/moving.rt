@@ -10,7 +10,7 @@ fn copy(source: &[u8], begin: usize, n: usize, out: &mut [u8], to: usize)
 {
     let end = begin + n;
     let last = to + n;
-    transport::commit_uninit(&source[begin..end], &mut out[to..last]);
+    out[to..last].copy_from_slice(&source[begin..end]);
 }
 
 // n bytes of the source.
@@ -26,22 +26,12 @@ pub(crate) fn copy_bytes(source: &[u8], begin: usize, n: usize, out: &mut [u8], 
     }
 }
 
-fn fill(b: u8, part: &mut [u8])
-    ensures { part.new ≡ table (length part.old) (λ k. b) }
-{
-    let mut n: usize = 0;
-    while n < part.len() {
-        part[n] = b;
-        n += 1;
-    }
-}
-
 fn repeat(b: u8, n: usize, out: &mut [u8], to: usize)
     requires { to + n ≤ length out.old }
     ensures { out.new ≡ put_at to (table n (λ k. b)) out.old }
 {
     let last = to + n;
-    fill(b, &mut out[to..last]);
+    out[to..last].fill(b);
 }
 
 // A byte n times.

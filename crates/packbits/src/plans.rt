@@ -4,7 +4,6 @@ ghost use Rattle.answer.specs.Outcome.{unless, outcome};
 ghost use Rattle.packbits.specs.Plans.{plan_of, alike, kept, keeps};
 ghost use Rattle.packbits.specs.Parts.{packet_length, plan_length, room_faults};
 
-use crate::Packed;
 use answer::Refusal;
 
 // Whether all bytes are the first.
@@ -12,10 +11,8 @@ fn alike(part: &[u8]) -> bool
     ensures { result ≡ alike (length part.now) part.now }
 {
     let mut same = true;
-    let mut k: usize = 0;
-    while k < part.len() {
-        same = same & (part[k] == part[0]);
-        k += 1;
+    for b in part {
+        same = same & (*b == part[0]);
     }
     same
 }
@@ -42,14 +39,12 @@ pub(crate) fn check_plan(row: &[u8], kinds: &[u8], lengths: &[u8]) -> bool
     ensures { result ≡ keeps row.now (plan_of kinds.now lengths.now) }
 {
     let mut at: usize = 0;
-    let mut k: usize = 0;
-    while k < kinds.len() {
+    for (k, kind) in kinds.iter().enumerate() {
         let bytes = lengths[k];
-        if !kept(row, at, kinds[k], bytes) {
+        if !kept(row, at, *kind, bytes) {
             return false;
         }
         at += bytes as usize;
-        k += 1;
     }
     at == row.len()
 }
@@ -69,14 +64,12 @@ pub(crate) fn plan_length(kinds: &[u8], lengths: &[u8], room: usize) -> Result<u
     ensures { outcome result ≡ unless (room_faults room (plan_of kinds.now lengths.now)) (plan_length (plan_of kinds.now lengths.now)) }
 {
     let mut n: usize = 0;
-    let mut k: usize = 0;
-    while k < kinds.len() {
-        let more = packet_length(kinds[k], lengths[k]);
+    for (k, kind) in kinds.iter().enumerate() {
+        let more = packet_length(*kind, lengths[k]);
         if room - n < more {
             return Err(Refusal::OutputTooSmall);
         }
         n += more;
-        k += 1;
     }
     Ok(n)
 }

@@ -1,38 +1,56 @@
 // Packets that are read: what a first byte says, what is wrong with a packet, and the row that packets fill.
 ghost use Rattle.std.specs.Prelude.{◌≡◌, ◌+◌, ◌≤◌, length};
 ghost use Rattle.answer.specs.Outcome.{Step};
-ghost use Rattle.packbits.specs.Rows.{fills, takes, packet_faults};
-ghost use Rattle.packbits.specs.Parts.{begun, whole_literal, does_nothing, RowFits, RowFilled};
+ghost use Rattle.packbits.specs.Rows.{packet_faults};
+ghost use Rattle.packbits.specs.Parts.{begun, header_of, header_fills, header_takes, whole_literal, does_nothing, RowFits, RowFilled};
 
 use crate::moving::{copy_bytes, repeat_byte};
-use answer::{Refusal, fault, first_of};
+use answer::{Refusal, fault};
 
-// The bytes of the row that a packet fills, by its first byte.
-pub(crate) fn fills(header: u8) -> usize
-    ensures { result ≡ fills header }
-{
-    let h = header as usize;
-    if h < 128 {
-        return h + 1;
-    }
-    if h == 128 {
-        return 0;
-    }
-    257 - h
+// A packet's first byte: so many bytes follow as they stand, nothing follows, or the byte behind it stands so many times.
+#[derive(Clone, Copy)]
+pub(crate) enum Header {
+    Copies(u8),
+    Rests,
+    Repeats(u8),
 }
 
-// The bytes of the input that it takes.
-pub(crate) fn takes(header: u8) -> usize
-    ensures { result ≡ takes header }
-{
-    let h = header as usize;
-    if h < 128 {
-        return h + 2;
+impl From<u8> for Header {
+    ghost from_gives = { λ byte header. header ≡ header_of byte };
+
+    fn from(byte: u8) -> Header {
+        if byte < 128 {
+            Header::Copies(byte + 1)
+        } else if byte == 128 {
+            Header::Rests
+        } else {
+            Header::Repeats(255 - byte + 2)
+        }
     }
-    if h == 128 {
-        return 1;
+}
+
+impl Header {
+    // The bytes of the row that the packet fills.
+    pub(crate) fn fills(self) -> usize
+        ensures { result ≡ header_fills self }
+    {
+        match self {
+            Header::Copies(n) => n as usize,
+            Header::Rests => 0,
+            Header::Repeats(n) => n as usize,
+        }
     }
-    2
+
+    // The bytes of the input that it takes.
+    pub(crate) fn takes(self) -> usize
+        ensures { result ≡ header_takes self }
+    {
+        match self {
+            Header::Copies(n) => n as usize + 1,
+            Header::Rests => 1,
+            Header::Repeats(_) => 2,
+        }
+    }
 }
 
 // The packet at a place of the input, which finds so much of the row left.
@@ -44,11 +62,9 @@ pub(crate) fn check_packet(packed: &[u8], at: usize, left: usize) -> Result<(), 
     if there == 0 {
         return Err(Refusal::Truncated);
     }
-    let header = packed[at];
-    first_of(
-        fault(left < fills(header), Refusal::Invalid),
-        fault(there < takes(header), Refusal::Truncated),
-    )
+    let header = Header::from(packed[at]);
+    fault(left < header.fills(), Refusal::Invalid)?;
+    fault(there < header.takes(), Refusal::Truncated)
 }
 
 // Whether a literal of 128 bytes begins here, all there and within the row.
@@ -83,19 +99,13 @@ pub(crate) fn fill_row(packed: &[u8], row: &mut [u8])
     let mut at: usize = 0;
     let mut from: usize = 0;
     while from < row.len() {
-        let header = packed[at];
-        if header < 128 {
-            let n = header as usize + 1;
-            copy_bytes(packed, at + 1, n, row, from);
-            from += n;
-            at += n + 1;
-        } else if header == 128 {
-            at += 1;
-        } else {
-            let n = 257 - header as usize;
-            repeat_byte(packed[at + 1], n, row, from);
-            from += n;
-            at += 2;
+        let header = Header::from(packed[at]);
+        match header {
+            Header::Copies(n) => copy_bytes(packed, at + 1, n as usize, row, from),
+            Header::Rests => (),
+            Header::Repeats(n) => repeat_byte(packed[at + 1], n as usize, row, from),
         }
+        from += header.fills();
+        at += header.takes();
     }
 }

@@ -34,21 +34,18 @@ pub(crate) fn put_plan(row: &[u8], kinds: &[u8], lengths: &[u8], out: &mut [u8])
 {
     let mut at: usize = 0;
     let mut to: usize = 0;
-    let mut k: usize = 0;
-    while k < kinds.len() {
-        let kind = kinds[k];
+    for (k, kind) in kinds.iter().enumerate() {
         let bytes = lengths[k];
-        put_planned(row, at, kind, bytes, out, to);
+        put_planned(row, at, *kind, bytes, out, to);
         at += bytes as usize;
-        to += packet_length(kind, bytes);
-        k += 1;
+        to += packet_length(*kind, bytes);
     }
 }
 
 fn next_literal(left: usize) -> usize
     ensures { result ≡ pick (ltb 128 left) 128 left }
 {
-    if 128 < left { 128 } else { left }
+    left.min(128)
 }
 
 pub(crate) fn put_literals(row: &[u8], out: &mut [u8])

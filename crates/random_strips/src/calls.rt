@@ -1,116 +1,82 @@
-// The calls that are compared, and what each is given: a list of numbers, of which flags are 0 or 1, and bytes.
+// The calls that are compared.
+use std::fmt;
 
-pub const CONVERT: usize = 0;
-
-pub const FORWARD: usize = 1;
-
-pub const REORDER: usize = 2;
-
-pub const SWAP: usize = 3;
-
-pub const COMMIT: usize = 4;
-
-pub const REVERSE: usize = 5;
-
-pub const MARKS: usize = 6;
-
-pub const CHECK_STRIP: usize = 7;
-
-pub const READ_WORD: usize = 8;
-
-pub const LOAD: usize = 9;
-
-pub const BYTE_PLACE: usize = 10;
-
-pub const CHECK_LAYOUT: usize = 11;
-
-pub const CHECK_RECORD: usize = 12;
-
-pub const INDEX: usize = 13;
-
-pub const RENDER: usize = 14;
-
-pub const WRITE_PLANES: usize = 15;
-
-pub const CALLS: usize = 16;
-
-// A picture's numbers: the flags, the other fields, and the derived ones, each of which follows from those before it.
-pub const PALETTE: usize = 0;
-
-pub const SEPARATE: usize = 1;
-
-pub const PICTURE_LE: usize = 2;
-
-pub const WHITE: usize = 3;
-
-pub const BYTES: usize = 4;
-
-pub const SLOTS: usize = 5;
-
-pub const ALPHA: usize = 6;
-
-pub const CH: usize = 7;
-
-pub const W: usize = 8;
-
-pub const H: usize = 9;
-
-pub const MAP: usize = 10;
-
-pub const ENCODED_WIDTH: usize = 11;
-
-pub const PLANE_CHANNELS: usize = 12;
-
-pub const PLANES: usize = 13;
-
-pub const PLANE_LEN: usize = 14;
-
-pub const SCRATCH_LEN: usize = 15;
-
-pub const OUTPUT_LEN: usize = 16;
-
-pub const COLORS: usize = 17;
-
-// A strip's numbers, at the same places as the last ones of a picture.
-pub const LE: usize = 11;
-
-pub const PREDICT: usize = 12;
-
-pub const OUT_LE: usize = 13;
-
-pub const WIDE: usize = 14;
-
-pub const WIDTH: usize = 15;
-
-pub const CHANNELS: usize = 16;
-
-pub const ROW: usize = 17;
-
-// Numbers of both: how long the file part, the input and the output are, and a place asked for.
-pub const FILE: usize = 18;
-
-pub const LENGTH: usize = 19;
-
-pub const ROOM: usize = 20;
-
-pub const PLACE: usize = 21;
-
-pub const NUMBERS: usize = 22;
-
-// How long most calls' buffers are, any buffer, and the file part, at most.
-pub const MOST: usize = 160;
-
-pub const LONGEST: usize = 1200;
-
-pub const MOST_FILE: usize = 1600;
-
-// What a call answers: rule 1.1's number, 0 for done, and the word, place or count, if it answers one.
-#[derive(Clone, Copy)]
-pub struct Answer {
-    pub number: usize,
-    pub value: usize,
+#[derive(Clone, Copy, PartialEq, Eq)]
+pub enum StripCall {
+    Convert,
+    Forward,
+    Reorder,
+    SwapComponents,
+    CommitUninit,
+    ReverseBits,
+    Marks,
+    CheckStrip,
+    ReadWord,
+    Load,
+    BytePlace,
 }
 
-pub(crate) fn is_picture(call: usize) -> bool {
-    CHECK_LAYOUT <= call
+#[derive(Clone, Copy, PartialEq, Eq)]
+pub enum PictureCall {
+    CheckLayout,
+    CheckRecord,
+    Index,
+    Render,
+    WritePlanes,
+}
+
+#[derive(Clone, Copy)]
+pub enum Call {
+    Strip(StripCall),
+    Picture(PictureCall),
+}
+
+// In the order in which they take turns.
+pub const CALLS: [Call; 16] = [
+    Call::Strip(StripCall::Convert),
+    Call::Strip(StripCall::Forward),
+    Call::Strip(StripCall::Reorder),
+    Call::Strip(StripCall::SwapComponents),
+    Call::Strip(StripCall::CommitUninit),
+    Call::Strip(StripCall::ReverseBits),
+    Call::Strip(StripCall::Marks),
+    Call::Strip(StripCall::CheckStrip),
+    Call::Strip(StripCall::ReadWord),
+    Call::Strip(StripCall::Load),
+    Call::Strip(StripCall::BytePlace),
+    Call::Picture(PictureCall::CheckLayout),
+    Call::Picture(PictureCall::CheckRecord),
+    Call::Picture(PictureCall::Index),
+    Call::Picture(PictureCall::Render),
+    Call::Picture(PictureCall::WritePlanes),
+];
+
+impl fmt::Display for StripCall {
+    fn fmt<W: fmt::Write>(&self, f: &mut fmt::Formatter<W>) -> fmt::Result {
+        f.pad(match self {
+            StripCall::Convert => "convert",
+            StripCall::Forward => "forward",
+            StripCall::Reorder => "reorder",
+            StripCall::SwapComponents => "swap_components",
+            StripCall::CommitUninit => "commit_uninit",
+            StripCall::ReverseBits => "reverse_bits",
+            StripCall::Marks => "marks",
+            StripCall::CheckStrip => "check_strip",
+            StripCall::ReadWord => "read_word",
+            StripCall::Load => "load",
+            StripCall::BytePlace => "byte_place",
+        })
+    }
+}
+
+impl fmt::Display for PictureCall {
+    fn fmt<W: fmt::Write>(&self, f: &mut fmt::Formatter<W>) -> fmt::Result {
+        f.pad(match self {
+            PictureCall::CheckLayout => "check_layout",
+            PictureCall::CheckRecord => "check_record",
+            PictureCall::Index => "index",
+            PictureCall::Render => "render",
+            PictureCall::WritePlanes => "write_planes",
+        })
+    }
 }

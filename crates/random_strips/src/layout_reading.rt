@@ -1,162 +1,161 @@
 // Section 5 of docs/RULES.md and upstream's `valid`, on layouts, read slowly: a picture byte is found from its row, column and channel.
-use crate::calls::*;
-use crate::whole::*;
+use crate::outcome::Fault;
+use crate::picture::Picture;
+use crate::whole::{divided, quotient};
 
-fn plane_channels(p: &[usize]) -> usize {
-    let channels = either(on(p, SEPARATE), 1, at(p, CH));
-    either(on(p, PALETTE), 1, times(channels, at(p, BYTES)))
+// What the derived fields are, each from the fields before it.
+pub(crate) fn encoded_width(p: &Picture) -> usize {
+    quotient(p.w.saturating_sub(1), p.slots).saturating_add(1)
 }
 
-fn colors(slots: usize) -> usize {
-    match slots {
+pub(crate) fn plane_channels(p: &Picture) -> usize {
+    let channels = if p.separate { 1 } else { p.ch };
+    if p.palette {
+        1
+    } else {
+        channels.saturating_mul(p.bytes)
+    }
+}
+
+pub(crate) fn planes(p: &Picture) -> usize {
+    if p.separate { p.ch } else { 1 }
+}
+
+pub(crate) fn plane_len(p: &Picture) -> usize {
+    p.encoded_width
+        .saturating_mul(p.h)
+        .saturating_mul(p.plane_channels)
+}
+
+pub(crate) fn scratch_len(p: &Picture) -> usize {
+    p.plane_len.saturating_mul(p.planes)
+}
+
+pub(crate) fn output_len(p: &Picture) -> usize {
+    p.w.saturating_mul(p.h)
+        .saturating_mul(p.ch)
+        .saturating_mul(p.bytes)
+}
+
+pub(crate) fn colors(p: &Picture) -> usize {
+    match p.slots {
         8 => 2,
         2 => 16,
         _ => 256,
     }
 }
 
-fn encoded_width(w: usize, slots: usize) -> usize {
-    plus(quotient(minus(w, 1), slots), 1)
-}
-
-fn output_len(p: &[usize]) -> usize {
-    times(times(times(at(p, W), at(p, H)), at(p, CH)), at(p, BYTES))
-}
-
-fn plane_len(p: &[usize]) -> usize {
-    times(times(at(p, ENCODED_WIDTH), at(p, H)), at(p, PLANE_CHANNELS))
-}
-
-// What derived field i is, from the fields before it.
-pub(crate) fn derived(p: &[usize], i: usize) -> usize {
-    match i {
-        ENCODED_WIDTH => encoded_width(at(p, W), at(p, SLOTS)),
-        PLANE_CHANNELS => plane_channels(p),
-        PLANES => either(on(p, SEPARATE), at(p, CH), 1),
-        PLANE_LEN => plane_len(p),
-        SCRATCH_LEN => times(at(p, PLANE_LEN), at(p, PLANES)),
-        OUTPUT_LEN => output_len(p),
-        _ => colors(at(p, SLOTS)),
-    }
-}
-
 // Whether every derived field is as it should be.
-fn agrees(p: &[usize]) -> bool {
-    let mut same = true;
-    let mut i: usize = ENCODED_WIDTH;
-    while i <= COLORS {
-        if derived(p, i) != at(p, i) {
-            same = false;
-        }
-        i += 1;
-    }
-    same
+fn agrees(p: &Picture) -> bool {
+    p.encoded_width == encoded_width(p)
+        && p.plane_channels == plane_channels(p)
+        && p.planes == planes(p)
+        && p.plane_len == plane_len(p)
+        && p.scratch_len == scratch_len(p)
+        && p.output_len == output_len(p)
+        && p.colors == colors(p)
 }
 
-fn one_two_eight(v: usize) -> bool {
-    v == 1 || v == 2 || v == 8
-}
-
-fn unsupported(p: &[usize]) -> bool {
-    let ch = at(p, CH);
-    !one_two_eight(at(p, BYTES))
-        || !one_two_eight(at(p, SLOTS))
-        || ch == 0
-        || ch > 4
-        || at(p, ALPHA) > 2
+fn unsupported(p: &Picture) -> bool {
+    !matches!(p.bytes, 1 | 2 | 8)
+        || !matches!(p.slots, 1 | 2 | 8)
+        || !matches!(p.ch, 1..=4)
+        || p.alpha > 2
 }
 
 // The 8-byte rule: neither white nor palette nor alpha, slots 1, 1 or 3 channels.
-fn eight_rule(p: &[usize]) -> bool {
-    let ch = at(p, CH);
-    let unplain = on(p, WHITE) || on(p, PALETTE) || at(p, ALPHA) != 0;
-    at(p, BYTES) != 8 || !unplain && at(p, SLOTS) == 1 && (ch == 1 || ch == 3)
+fn eight_rule(p: &Picture) -> bool {
+    let plain = !p.white && !p.palette && p.alpha == 0;
+    p.bytes != 8 || plain && p.slots == 1 && matches!(p.ch, 1 | 3)
 }
 
 // The alpha rule: 1 byte, 2 or 4 channels, no palette.
-fn alpha_rule(p: &[usize]) -> bool {
-    let ch = at(p, CH);
-    at(p, ALPHA) == 0 || at(p, BYTES) == 1 && !on(p, PALETTE) && (ch == 2 || ch == 4)
+fn alpha_rule(p: &Picture) -> bool {
+    p.alpha == 0 || p.bytes == 1 && !p.palette && matches!(p.ch, 2 | 4)
 }
 
 // The palette and slots rules: a palette has 3 channels, 1 byte, one plane and no alpha; without one slots are 1, or 8 for bilevel.
-fn slots_rule(p: &[usize]) -> bool {
-    let ch = at(p, CH);
-    let slots = at(p, SLOTS);
-    let lone = at(p, BYTES) == 1 && at(p, ALPHA) == 0;
-    if on(p, PALETTE) {
-        lone && ch == 3 && !on(p, SEPARATE)
+fn slots_rule(p: &Picture) -> bool {
+    let lone = p.bytes == 1 && p.alpha == 0;
+    if p.palette {
+        lone && p.ch == 3 && !p.separate
     } else {
-        slots == 1 || slots == 8 && ch == 1 && lone
+        p.slots == 1 || p.slots == 8 && p.ch == 1 && lone
     }
 }
 
-fn invalid(p: &[usize]) -> bool {
-    at(p, W) == 0 || at(p, H) == 0 || !eight_rule(p) || !alpha_rule(p) || !slots_rule(p)
+fn invalid(p: &Picture) -> bool {
+    p.w == 0 || p.h == 0 || !eight_rule(p) || !alpha_rule(p) || !slots_rule(p)
 }
 
-fn beyond(p: &[usize]) -> bool {
-    at(p, W) > 16384 || at(p, H) > 16384 || output_len(p) > 1073741824
+fn beyond(p: &Picture) -> bool {
+    p.w > 16384 || p.h > 16384 || output_len(p) > 1073741824
 }
 
-// The number of a layout's first fault, 0 for none.
-pub(crate) fn layout_fault(p: &[usize]) -> usize {
-    either(
-        unsupported(p),
-        1,
-        either(invalid(p), 2, either(beyond(p), 5, 0)),
-    )
+// A layout's first fault.
+pub(crate) fn check_layout(p: &Picture) -> Result<(), Fault> {
+    Fault::Unsupported.when(unsupported(p))?;
+    Fault::Invalid.when(invalid(p))?;
+    Fault::Limit.when(beyond(p))
 }
 
-// The number of a record's first fault, 0 for none.
-pub(crate) fn record_fault(p: &[usize]) -> usize {
-    let first = layout_fault(p);
-    either(first == 0 && !agrees(p), 2, first)
+// A record's first fault.
+pub(crate) fn check_record(p: &Picture) -> Result<(), Fault> {
+    check_layout(p)?;
+    Fault::Invalid.when(!agrees(p))
 }
 
-// The row, the column and the channel of byte k of a picture, and which byte of its sample it is.
-fn row(p: &[usize], k: usize) -> usize {
-    quotient(k, times(at(p, W), times(at(p, CH), at(p, BYTES))))
+// Where byte k of a picture is: its row, column and channel, and which byte of its sample it is.
+#[derive(Clone, Copy)]
+pub struct Position {
+    pub row: usize,
+    pub column: usize,
+    pub channel: usize,
+    pub byte: usize,
 }
 
-pub(crate) fn column(p: &[usize], k: usize) -> usize {
-    remainder(quotient(k, times(at(p, CH), at(p, BYTES))), at(p, W))
-}
-
-pub(crate) fn channel(p: &[usize], k: usize) -> usize {
-    remainder(quotient(k, at(p, BYTES)), at(p, CH))
-}
-
-// Which stored byte of its sample byte k is: two-byte samples come out most significant byte first.
-fn stored(p: &[usize], k: usize) -> usize {
-    let bytes = at(p, BYTES);
-    let b = remainder(k, bytes);
-    either(bytes == 2 && on(p, PICTURE_LE), minus(1, b), b)
+pub(crate) fn position_of(p: &Picture, k: usize) -> Position {
+    let (sample, byte) = divided(k, p.bytes);
+    let (pixel, channel) = divided(sample, p.ch);
+    let (row, column) = divided(pixel, p.w);
+    Position {
+        row,
+        column,
+        channel,
+        byte,
+    }
 }
 
 // Whether rows hold several samples to a byte, or places of a palette.
-pub(crate) fn packed(p: &[usize]) -> bool {
-    on(p, PALETTE) || at(p, SLOTS) == 8
+pub(crate) fn packed(p: &Picture) -> bool {
+    p.palette || p.slots == 8
 }
 
-// The place in the planes of byte k of the picture, where its sample fills bytes.
-fn whole_source(p: &[usize], k: usize) -> usize {
-    let pixel = plus(times(row(p, k), at(p, W)), column(p, k));
-    let c = channel(p, k);
-    let bytes = at(p, BYTES);
-    let apart = plus(times(c, at(p, PLANE_LEN)), times(pixel, bytes));
-    let together = times(plus(times(pixel, at(p, CH)), c), bytes);
-    plus(either(on(p, SEPARATE), apart, together), stored(p, k))
+// The place in the planes of a byte whose sample fills bytes. Two-byte samples come out most significant byte first.
+fn whole_source(p: &Picture, at: Position) -> usize {
+    let stored = if p.bytes == 2 && p.le {
+        1usize.saturating_sub(at.byte)
+    } else {
+        at.byte
+    };
+    let pixel = at.row.saturating_mul(p.w).saturating_add(at.column);
+    let sample = if p.separate {
+        let plane = at.channel.saturating_mul(p.plane_len);
+        plane.saturating_add(pixel.saturating_mul(p.bytes))
+    } else {
+        let before = pixel.saturating_mul(p.ch).saturating_add(at.channel);
+        before.saturating_mul(p.bytes)
+    };
+    sample.saturating_add(stored)
 }
 
 // The place in the planes of byte k of the picture.
-pub(crate) fn source(p: &[usize], k: usize) -> usize {
+pub(crate) fn source(p: &Picture, k: usize) -> usize {
+    let at = position_of(p, k);
     if packed(p) {
-        plus(
-            times(row(p, k), at(p, ENCODED_WIDTH)),
-            quotient(column(p, k), at(p, SLOTS)),
-        )
+        let row = at.row.saturating_mul(p.encoded_width);
+        row.saturating_add(quotient(at.column, p.slots))
     } else {
-        whole_source(p, k)
+        whole_source(p, at)
     }
 }

@@ -1,221 +1,192 @@
 // The library's calls on the same numbers and bytes.
-use crate::calls::*;
-use crate::whole::*;
+use crate::calls::{PictureCall, StripCall};
+use crate::case::{BEFORE, Case, Given, LONGEST};
+use crate::outcome::Outcome;
+use crate::picture::Picture;
+use crate::strip::Strip;
 use answer::{ByteAt, Done, Refusal, SampleAt};
 use damage::Counted;
 use layout::{Checked, Fields, RasterLayout};
+use std::alloc::{AllocError, Global};
 use words::{Loaded, Word};
 
-fn refused(k: Refusal) -> Answer {
-    Answer {
-        number: answer::number(k) as usize,
-        value: 0,
+fn done(answer: Done) -> Result<usize, Refusal> {
+    match answer {
+        Done::Done => Ok(0),
+        Done::Refused(kind) => Err(kind),
     }
 }
 
-fn value(value: usize) -> Answer {
-    Answer { number: 0, value }
-}
-
-fn of_done(d: Done) -> Answer {
-    match d {
-        Done::Done => value(0),
-        Done::Refused(k) => refused(k),
+fn word(answer: Word) -> Result<usize, Refusal> {
+    match answer {
+        Word::Value(word) => Ok(word as usize),
+        Word::Refused(kind) => Err(kind),
     }
 }
 
-fn of_word(w: Word) -> Answer {
-    match w {
-        Word::Value(v) => value(v as usize),
-        Word::Refused(k) => refused(k),
+fn loaded(answer: Loaded) -> Result<usize, Refusal> {
+    match answer {
+        Loaded::Value(word) => Ok(word as usize),
+        Loaded::Refused(kind) => Err(kind),
     }
 }
 
-fn of_loaded(l: Loaded) -> Answer {
-    match l {
-        Loaded::Value(v) => value(v as usize),
-        Loaded::Refused(k) => refused(k),
+fn sample_place(answer: words::Place) -> Result<usize, Refusal> {
+    match answer {
+        words::Place::At(at) => Ok(at.0),
+        words::Place::Refused(kind) => Err(kind),
     }
 }
 
-fn of_sample_place(p: words::Place) -> Answer {
-    match p {
-        words::Place::At(at) => value(at.0),
-        words::Place::Refused(k) => refused(k),
+fn byte_place(answer: layout::Place) -> Result<usize, Refusal> {
+    match answer {
+        layout::Place::Done(at) => Ok(at.0),
+        layout::Place::Refused(kind) => Err(kind),
     }
 }
 
-fn of_byte_place(p: layout::Place) -> Answer {
-    match p {
-        layout::Place::Done(at) => value(at.0),
-        layout::Place::Refused(k) => refused(k),
+fn counted(answer: Counted) -> Result<usize, Refusal> {
+    match answer {
+        Counted::Done(count) => Ok(count),
+        Counted::Refused(kind) => Err(kind),
     }
 }
 
-fn of_counted(c: Counted) -> Answer {
-    match c {
-        Counted::Done(n) => value(n),
-        Counted::Refused(k) => refused(k),
+fn checked(answer: Checked) -> Result<RasterLayout, Refusal> {
+    match answer {
+        Checked::Done(layout) => Ok(layout),
+        Checked::Refused(kind) => Err(kind),
     }
 }
 
 // What a picture's numbers say, and the library's record of them.
-fn fields(p: &[usize]) -> Fields {
+fn fields(p: &Picture) -> Fields {
     Fields {
-        w: at(p, W),
-        h: at(p, H),
-        ch: at(p, CH),
-        bytes: at(p, BYTES),
-        slots: at(p, SLOTS),
-        palette: on(p, PALETTE),
-        separate: on(p, SEPARATE),
-        le: on(p, PICTURE_LE),
-        white: on(p, WHITE),
-        alpha: at(p, ALPHA),
-        map: at(p, MAP),
+        w: p.w,
+        h: p.h,
+        ch: p.ch,
+        bytes: p.bytes,
+        slots: p.slots,
+        palette: p.palette,
+        separate: p.separate,
+        le: p.le,
+        white: p.white,
+        alpha: p.alpha,
+        map: p.map,
     }
 }
 
-fn record(p: &[usize]) -> RasterLayout {
+fn record(p: &Picture) -> RasterLayout {
     RasterLayout {
         fields: fields(p),
-        encoded_width: at(p, ENCODED_WIDTH),
-        plane_channels: at(p, PLANE_CHANNELS),
-        planes: at(p, PLANES),
-        plane_len: at(p, PLANE_LEN),
-        scratch_len: at(p, SCRATCH_LEN),
-        output_len: at(p, OUTPUT_LEN),
-        colors: at(p, COLORS),
-    }
-}
-
-// A picture's number i, of a record.
-fn field(l: RasterLayout, i: usize) -> usize {
-    match i {
-        PALETTE => l.fields.palette as usize,
-        SEPARATE => l.fields.separate as usize,
-        PICTURE_LE => l.fields.le as usize,
-        WHITE => l.fields.white as usize,
-        BYTES => l.fields.bytes,
-        SLOTS => l.fields.slots,
-        ALPHA => l.fields.alpha,
-        CH => l.fields.ch,
-        W => l.fields.w,
-        H => l.fields.h,
-        MAP => l.fields.map,
-        ENCODED_WIDTH => l.encoded_width,
-        PLANE_CHANNELS => l.plane_channels,
-        PLANES => l.planes,
-        PLANE_LEN => l.plane_len,
-        SCRATCH_LEN => l.scratch_len,
-        OUTPUT_LEN => l.output_len,
-        _ => l.colors,
+        encoded_width: p.encoded_width,
+        plane_channels: p.plane_channels,
+        planes: p.planes,
+        plane_len: p.plane_len,
+        scratch_len: p.scratch_len,
+        output_len: p.output_len,
+        colors: p.colors,
     }
 }
 
 // How many fields of a record are as they should be.
-fn right_fields(l: RasterLayout, p: &[usize]) -> usize {
-    let mut count: usize = 0;
-    let mut i: usize = 0;
-    while i <= COLORS {
-        count = plus(count, either(field(l, i) == at(p, i), 1, 0));
-        i += 1;
-    }
-    count
-}
-
-fn of_checked(c: Checked, p: &[usize]) -> Answer {
-    match c {
-        Checked::Done(l) => value(right_fields(l, p)),
-        Checked::Refused(k) => refused(k),
-    }
-}
-
-fn check_layout(p: &[usize]) -> Answer {
-    of_checked(layout::check_layout(fields(p)), p)
-}
-
-fn convert(call: usize, p: &[usize], input: &[u8], out: &mut [u8]) -> Done {
-    let row = at(p, ROW);
-    let channels = at(p, CHANNELS);
-    let width = at(p, WIDTH);
-    let le = on(p, LE);
-    let predict = on(p, PREDICT);
-    let out_le = on(p, OUT_LE);
-    if call == CONVERT {
-        strips::convert(input, row, channels, width, le, predict, out_le, out)
-    } else {
-        strips::forward(input, row, channels, width, le, predict, out_le, out)
-    }
-}
-
-fn marks(p: &[usize], input: &[u8], out: &mut [u8]) -> Answer {
-    of_counted(damage::marks(
-        input,
-        at(p, ROW),
-        at(p, CHANNELS),
-        at(p, WIDTH),
-        on(p, PREDICT),
-        out,
-    ))
+fn right_fields(l: RasterLayout, p: &Picture) -> usize {
+    let f = l.fields;
+    let same = [
+        f.palette == p.palette,
+        f.separate == p.separate,
+        f.le == p.le,
+        f.white == p.white,
+        f.bytes == p.bytes,
+        f.slots == p.slots,
+        f.alpha == p.alpha,
+        f.ch == p.ch,
+        f.w == p.w,
+        f.h == p.h,
+        f.map == p.map,
+        l.encoded_width == p.encoded_width,
+        l.plane_channels == p.plane_channels,
+        l.planes == p.planes,
+        l.plane_len == p.plane_len,
+        l.scratch_len == p.scratch_len,
+        l.output_len == p.output_len,
+        l.colors == p.colors,
+    ];
+    same.iter().filter(|same| **same).count()
 }
 
 // Bits are reversed in place: in a copy of the input.
-fn reverse(input: &[u8], out: &mut [u8]) -> Done {
-    let copied = transport::commit_uninit(input, out);
-    if let Done::Done = copied {
-        transport::reverse_bits(front_mut(out, input.len()));
-    }
-    copied
+fn reverse(input: &[u8], out: &mut [u8]) -> Result<usize, Refusal> {
+    done(transport::commit_uninit(input, out))?;
+    let n = input.len().min(out.len());
+    transport::reverse_bits(&mut out[..n]);
+    Ok(0)
 }
 
-// The calls that write nothing.
-fn asked(call: usize, p: &[usize], input: &[u8]) -> Answer {
-    let width = at(p, WIDTH);
-    let place = at(p, PLACE);
-    let le = on(p, LE);
+fn answer_strip(
+    call: StripCall,
+    p: &Strip,
+    input: &[u8],
+    out: &mut [u8],
+) -> Result<usize, Refusal> {
+    let (row, channels, width) = (p.row, p.channels, p.width);
+    let (le, predict, out_le) = (p.le, p.predict, p.out_le);
     match call {
-        CHECK_STRIP => of_done(samples::check_strip(
-            input.len(),
-            at(p, ROW),
-            at(p, CHANNELS),
-            width,
+        StripCall::Convert => done(strips::convert(
+            input, row, channels, width, le, predict, out_le, out,
         )),
-        READ_WORD => of_word(words::read_word(input, ByteAt(place), width, le)),
-        LOAD => of_loaded(words::load(input, SampleAt(place), on(p, WIDE), le)),
-        BYTE_PLACE => of_sample_place(words::byte_place(SampleAt(place), width, input.len())),
-        CHECK_LAYOUT => check_layout(p),
-        CHECK_RECORD => of_done(layout::check_record(record(p))),
-        _ => of_byte_place(layout::index(record(p), ByteAt(place))),
+        StripCall::Forward => done(strips::forward(
+            input, row, channels, width, le, predict, out_le, out,
+        )),
+        StripCall::Reorder => done(samples::reorder(input, width, le, out_le, out)),
+        StripCall::SwapComponents => done(swaps::swap_components(input, width, out)),
+        StripCall::CommitUninit => done(transport::commit_uninit(input, out)),
+        StripCall::ReverseBits => reverse(input, out),
+        StripCall::Marks => counted(damage::marks(input, row, channels, width, predict, out)),
+        StripCall::CheckStrip => done(samples::check_strip(input.len(), row, channels, width)),
+        StripCall::ReadWord => word(words::read_word(input, ByteAt(p.place), width, le)),
+        StripCall::Load => loaded(words::load(input, SampleAt(p.place), p.wide, le)),
+        StripCall::BytePlace => {
+            sample_place(words::byte_place(SampleAt(p.place), width, input.len()))
+        }
     }
 }
 
-// The calls that write and answer no value.
-fn moved(call: usize, p: &[usize], input: &[u8], file: &[u8], out: &mut [u8]) -> Done {
-    let width = at(p, WIDTH);
-    match call {
-        CONVERT | FORWARD => convert(call, p, input, out),
-        REORDER => samples::reorder(input, width, on(p, LE), on(p, OUT_LE), out),
-        SWAP => swaps::swap_components(input, width, out),
-        COMMIT => transport::commit_uninit(input, out),
-        REVERSE => reverse(input, out),
-        RENDER => rendering::render(record(p), file, input, out),
-        _ => writing::write_planes(record(p), input, out),
-    }
-}
-
-pub(crate) fn answer(
-    call: usize,
-    p: &[usize],
+fn answer_picture(
+    call: PictureCall,
+    p: &Picture,
     input: &[u8],
     file: &[u8],
     out: &mut [u8],
-) -> Answer {
+) -> Result<usize, Refusal> {
     match call {
-        MARKS => marks(p, input, out),
-        CONVERT | FORWARD | REORDER | SWAP | COMMIT | REVERSE | RENDER | WRITE_PLANES => {
-            of_done(moved(call, p, input, file, out))
+        PictureCall::CheckLayout => {
+            let layout = checked(layout::check_layout(fields(p)))?;
+            Ok(right_fields(layout, p))
         }
-        _ => asked(call, p, input),
+        PictureCall::CheckRecord => done(layout::check_record(record(p))),
+        PictureCall::Index => byte_place(layout::index(record(p), ByteAt(p.place))),
+        PictureCall::Render => done(rendering::render(record(p), file, input, out)),
+        PictureCall::WritePlanes => done(writing::write_planes(record(p), input, out)),
     }
+}
+
+// The buffer is lent as far as a call has room in it.
+pub(crate) fn outcome(alloc: Global, case: &Case) -> Result<Outcome, AllocError> {
+    let mut buffer = vec![in alloc; BEFORE; LONGEST]?;
+    let (input, file) = (case.input.as_slice(), case.file.as_slice());
+    let answer = match &case.given {
+        Given::Strip(call, p) => {
+            let out = &mut buffer[..p.room.min(LONGEST)];
+            answer_strip(*call, p, input, out)
+        }
+        Given::Picture(call, p) => {
+            let out = &mut buffer[..p.room.min(LONGEST)];
+            answer_picture(*call, p, input, file, out)
+        }
+    };
+    Ok(Outcome {
+        answer: answer.map_err(answer::number),
+        buffer,
+    })
 }

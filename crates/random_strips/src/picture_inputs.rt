@@ -1,118 +1,213 @@
-// The numbers of calls on layouts and pictures.
-use crate::calls::*;
-use crate::layout_reading::derived;
-use crate::rng::{once_in, pick, room};
-use crate::whole::*;
+// Random calls on layouts and pictures.
+use crate::calls::PictureCall;
+use crate::case::{LONGEST, MOST_FILE};
+use crate::layout_reading::{
+    colors, encoded_width, output_len, plane_channels, plane_len, planes, scratch_len,
+};
+use crate::picture::Picture;
+use crate::trial::Trial;
+use crate::whole::{power, quotient};
+use std::alloc::{AllocError, Global};
 
-// What sort of picture a trial has; all others are plain ones of one or two bytes.
-const INDEXED: usize = 0;
+// What sort of picture a trial has; plain ones have one or two bytes.
+#[derive(Clone, Copy, PartialEq, Eq)]
+enum Sort {
+    Indexed,
+    Bilevel,
+    BesideAlpha,
+    Eight,
+    Plain,
+}
 
-const BILEVEL: usize = 1;
-
-const BESIDE_ALPHA: usize = 2;
-
-const EIGHT: usize = 3;
-
-fn sort_of(t: usize) -> usize {
-    match pick(t, 300, 16) {
-        0..=3 => INDEXED,
-        4..=7 => BILEVEL,
-        8..=11 => BESIDE_ALPHA,
-        12 => EIGHT,
-        _ => 4,
+fn some_sort(t: Trial) -> Sort {
+    match t.pick(300, 16) {
+        0..=3 => Sort::Indexed,
+        4..=7 => Sort::Bilevel,
+        8..=11 => Sort::BesideAlpha,
+        12 => Sort::Eight,
+        _ => Sort::Plain,
     }
 }
 
-fn some_channels(t: usize, sort: usize) -> usize {
-    let two = pick(t, 310, 2);
+fn some_channels(t: Trial, sort: Sort) -> usize {
+    let two = t.pick(310, 2);
     match sort {
-        INDEXED => 3,
-        BILEVEL => 1,
-        BESIDE_ALPHA => plus(2, times(2, two)),
-        EIGHT => plus(1, times(2, two)),
-        _ => plus(1, pick(t, 311, 4)),
+        Sort::Indexed => 3,
+        Sort::Bilevel => 1,
+        Sort::BesideAlpha => 2 + 2 * two,
+        Sort::Eight => 1 + 2 * two,
+        Sort::Plain => 1 + t.pick(311, 4),
     }
 }
 
-fn some_bytes(t: usize, sort: usize) -> usize {
+fn some_bytes(t: Trial, sort: Sort) -> usize {
     match sort {
-        EIGHT => 8,
-        INDEXED | BILEVEL | BESIDE_ALPHA => 1,
-        _ => plus(1, pick(t, 320, 2)),
+        Sort::Eight => 8,
+        Sort::Indexed | Sort::Bilevel | Sort::BesideAlpha => 1,
+        Sort::Plain => 1 + t.pick(320, 2),
     }
 }
 
-fn some_slots(t: usize, sort: usize) -> usize {
-    let kind = pick(t, 330, 5);
-    match sort {
-        INDEXED => either(kind == 0, 1, either(kind < 3, 2, 8)),
-        BILEVEL => 8,
+fn some_slots(t: Trial, sort: Sort) -> usize {
+    match (sort, t.pick(330, 5)) {
+        (Sort::Indexed, 0) => 1,
+        (Sort::Indexed, 1 | 2) => 2,
+        (Sort::Indexed, _) | (Sort::Bilevel, _) => 8,
         _ => 1,
     }
 }
 
-fn some_flag(t: usize, i: usize, sort: usize) -> usize {
-    let v = pick(t, plus(340, i), 2);
-    match i {
-        PALETTE => either(sort == INDEXED, 1, 0),
-        SEPARATE => either(sort == INDEXED, 0, v),
-        WHITE => either(sort == EIGHT, 0, v),
-        _ => v,
+// Flag i of such a call, or once in so many times either of both.
+fn flag(t: Trial, i: usize, good: bool) -> bool {
+    if t.once_in(i.saturating_add(700), 30) {
+        t.pick(730, 2) == 1
+    } else {
+        good
     }
 }
 
+// A flag by chance.
+fn some_flag(t: Trial, i: usize) -> bool {
+    t.pick(i.saturating_add(340), 2) == 1
+}
+
 // A side near the limit, or any within it.
-fn large_side(t: usize, item: usize) -> usize {
-    let v = pick(t, plus(item, 1), 16384);
-    match pick(t, item, 4) {
+fn large_side(t: Trial, item: usize) -> usize {
+    let v = t.pick(item.saturating_add(1), 16384);
+    match t.pick(item, 4) {
         0 => 16384,
-        1 => minus(16386, remainder(v, 4)),
-        2 => power(2, remainder(v, 15)),
-        _ => plus(1, v),
+        1 => 16386 - v % 4,
+        2 => power(2, v % 15),
+        _ => 1 + v,
     }
 }
 
 // A side of a picture with `most` pixels left: in half of the trials of calls that take no picture a large one.
-fn some_side(call: usize, t: usize, item: usize, most: usize) -> usize {
-    if call < RENDER && once_in(t, item, 2) {
-        large_side(t, plus(item, 1))
+fn some_side(call: PictureCall, t: Trial, item: usize, most: usize) -> usize {
+    let takes_picture = matches!(call, PictureCall::Render | PictureCall::WritePlanes);
+    if !takes_picture && t.once_in(item, 2) {
+        large_side(t, item.saturating_add(1))
     } else {
-        plus(1, pick(t, plus(item, 3), smaller(most, 19)))
+        t.pick(item.saturating_add(3), most.min(19))
+            .saturating_add(1)
     }
 }
 
-// How many pixels the longest picture has.
-fn pixels(p: &[usize]) -> usize {
-    quotient(144, times(at(p, CH), at(p, BYTES)))
+// What a caller says of a picture, each number from those before it.
+fn fields(call: PictureCall, t: Trial) -> Picture {
+    let sort = some_sort(t);
+    let bytes = t.spoilt(4, some_bytes(t, sort));
+    let ch = t.spoilt(7, some_channels(t, sort));
+    let alpha = match sort {
+        Sort::BesideAlpha => 1 + t.pick(370, 2),
+        _ => 0,
+    };
+    // How many pixels the longest picture has.
+    let pixels = quotient(144, ch.saturating_mul(bytes));
+    let w = t.spoilt(8, some_side(call, t, 380, pixels));
+    Picture {
+        palette: flag(t, 0, sort == Sort::Indexed),
+        separate: flag(t, 1, sort != Sort::Indexed && some_flag(t, 1)),
+        le: flag(t, 2, some_flag(t, 2)),
+        white: flag(t, 3, sort != Sort::Eight && some_flag(t, 3)),
+        bytes,
+        slots: t.spoilt(5, some_slots(t, sort)),
+        alpha: t.spoilt(6, alpha),
+        ch,
+        w,
+        h: t.spoilt(9, some_side(call, t, 390, quotient(pixels, w).min(5))),
+        map: t.spoilt(10, t.pick(400, 40)),
+        ..Picture::default()
+    }
 }
 
+// The derived fields, which `check_layout` is not given: there none is spoilt.
+fn derive(call: PictureCall, t: Trial, p: &mut Picture) {
+    let number = |i: usize, good: usize| match call {
+        PictureCall::CheckLayout => good,
+        _ => t.spoilt(i, good),
+    };
+    p.encoded_width = number(11, encoded_width(p));
+    p.plane_channels = number(12, plane_channels(p));
+    p.planes = number(13, planes(p));
+    p.plane_len = number(14, plane_len(p));
+    p.scratch_len = number(15, scratch_len(p));
+    p.output_len = number(16, output_len(p));
+    p.colors = number(17, colors(p));
+}
 // A place in the picture, or about its end.
-fn some_place(t: usize, length: usize) -> usize {
-    either(
-        once_in(t, 360, 3),
-        room(t, 361, length),
-        pick(t, 363, length),
-    )
+fn some_place(t: Trial, length: usize) -> usize {
+    if t.once_in(360, 3) {
+        t.room(361, length)
+    } else {
+        t.pick(363, length)
+    }
 }
 
-// Number i of such a call, where those before it stand in p.
-pub(crate) fn number(call: usize, t: usize, i: usize, p: &[usize]) -> usize {
-    let sort = sort_of(t);
-    let scratch = at(p, SCRATCH_LEN);
-    let output = at(p, OUTPUT_LEN);
-    match i {
-        PALETTE | SEPARATE | PICTURE_LE | WHITE => some_flag(t, i, sort),
-        BYTES => some_bytes(t, sort),
-        SLOTS => some_slots(t, sort),
-        ALPHA => either(sort == BESIDE_ALPHA, plus(1, pick(t, 370, 2)), 0),
-        CH => some_channels(t, sort),
-        W => some_side(call, t, 380, pixels(p)),
-        H => some_side(call, t, 390, smaller(quotient(pixels(p), at(p, W)), 5)),
-        MAP => pick(t, 400, 40),
-        FILE => room(t, 410, plus(at(p, MAP), times(6, at(p, COLORS)))),
-        LENGTH => room(t, 420, either(call == RENDER, scratch, output)),
-        ROOM => room(t, 430, either(call == RENDER, output, scratch)),
-        PLACE => some_place(t, output),
-        _ => derived(p, i),
+// The lengths and the place, of which none is spoilt for `check_layout` either.
+fn lend(call: PictureCall, t: Trial, p: &mut Picture) {
+    let number = |i: usize, good: usize| match call {
+        PictureCall::CheckLayout => good,
+        _ => t.spoilt(i, good),
+    };
+    let (input, output) = match call {
+        PictureCall::Render => (p.scratch_len, p.output_len),
+        _ => (p.output_len, p.scratch_len),
+    };
+    let map_end = p.map.saturating_add(p.colors.saturating_mul(6));
+    p.file = number(18, t.room(410, map_end)).min(MOST_FILE);
+    p.length = number(19, t.room(420, input)).min(LONGEST);
+    p.room = number(20, t.room(430, output)).min(LONGEST);
+    p.place = number(21, some_place(t, p.output_len));
+}
+
+// One derived field made wrong by hand, now and then, when all that rests on it is chosen.
+fn spoil_derived(call: PictureCall, t: Trial, p: &mut Picture) {
+    if call == PictureCall::CheckLayout || !t.once_in(761, 6) {
+        return;
+    }
+    let field = match t.pick(760, 7) {
+        0 => &mut p.encoded_width,
+        1 => &mut p.plane_channels,
+        2 => &mut p.planes,
+        3 => &mut p.plane_len,
+        4 => &mut p.scratch_len,
+        5 => &mut p.output_len,
+        _ => &mut p.colors,
+    };
+    *field = t.edge(762, *field);
+}
+
+pub(crate) fn numbers(call: PictureCall, t: Trial) -> Picture {
+    let mut p = fields(call, t);
+    derive(call, t, &mut p);
+    lend(call, t, &mut p);
+    spoil_derived(call, t, &mut p);
+    p
+}
+
+// The bytes that such a call is given: any, but most bilevel pictures have 0 and 255 alone.
+pub(crate) fn input(
+    alloc: Global,
+    call: PictureCall,
+    t: Trial,
+    p: &Picture,
+) -> Result<Vec<u8>, AllocError> {
+    let rare = if call != PictureCall::WritePlanes || p.slots != 8 {
+        1
+    } else if t.once_in(801, 4) {
+        1 + t.pick(800, 30)
+    } else {
+        usize::MAX
+    };
+    t.bytes(alloc, p.length, 1000, rare, 255)
+}
+
+// The file part with a palette's colours; other pictures look at none.
+pub(crate) fn file(alloc: Global, t: Trial, p: &Picture) -> Result<Vec<u8>, AllocError> {
+    if p.palette {
+        t.bytes(alloc, p.file, 2000, 1, 0)
+    } else {
+        Ok(vec![in alloc; 0; p.file]?)
     }
 }

@@ -1,133 +1,116 @@
 // Sections 6 and 7 of docs/RULES.md, rendering and plane writing, read slowly: each byte worked out by itself.
-use crate::calls::*;
-use crate::layout_reading::{channel, column, packed, source};
-use crate::whole::*;
+use crate::layout_reading::{check_record, packed, position_of, source};
+use crate::outcome::Fault;
+use crate::picture::Picture;
+use crate::whole::{byte_at, digit};
 
-// The number of the first fault in rendering, after the record's, 0 for none.
-pub(crate) fn render_fault(p: &[usize]) -> usize {
-    let map_end = plus(at(p, MAP), times(6, at(p, COLORS)));
-    let no_map = on(p, PALETTE) && at(p, FILE) < map_end;
-    if at(p, BYTES) == 8 {
-        1
-    } else if no_map || at(p, LENGTH) < at(p, SCRATCH_LEN) {
-        3
-    } else {
-        either(at(p, ROOM) < at(p, OUTPUT_LEN), 4, 0)
-    }
+// The first fault in rendering.
+pub(crate) fn check_render(p: &Picture) -> Result<(), Fault> {
+    check_record(p)?;
+    Fault::Unsupported.when(p.bytes == 8)?;
+    let map_end = p.map.saturating_add(p.colors.saturating_mul(6));
+    Fault::Truncated.when(p.palette && p.file < map_end || p.length < p.scratch_len)?;
+    Fault::OutputTooSmall.when(p.room < p.output_len)
 }
 
 // The place of a palette at column x, from the byte that holds it: the high nibble, and the high bit, first.
-fn palette_place(slots: usize, v: usize, x: usize) -> usize {
+fn palette_place(slots: usize, v: u8, x: usize) -> usize {
+    let v = usize::from(v);
     match slots {
-        8 => digit(v, 2, minus(7, remainder(x, 8))),
-        2 => digit(v, 16, minus(1, remainder(x, 2))),
+        8 => digit(v, 2, 7 - x % 8),
+        2 => digit(v, 16, 1 - x % 2),
         _ => v,
     }
 }
 
 // The more significant byte of the 16-bit entry of channel c: the map holds all reds, then greens, then blues.
-fn colour(p: &[usize], file: &[u8], c: usize, place: usize) -> usize {
-    let entry = times(2, plus(times(c, at(p, COLORS)), place));
-    get(
-        file,
-        plus(plus(at(p, MAP), entry), either(on(p, PICTURE_LE), 1, 0)),
-    )
+fn colour(p: &Picture, file: &[u8], c: usize, place: usize) -> u8 {
+    let entry = c.saturating_mul(p.colors).saturating_add(place);
+    let low = p.map.saturating_add(entry.saturating_mul(2));
+    byte_at(file, low.saturating_add(usize::from(p.le)))
 }
 
 // v, or 255 - v with white.
-fn flipped(p: &[usize], v: usize) -> usize {
-    either(on(p, WHITE), minus(255, v), v)
+fn flipped(p: &Picture, v: u8) -> u8 {
+    if p.white { 255 - v } else { v }
 }
 
-// n / d; the next number where half of d or more is left over.
-fn nearest(n: usize, d: usize) -> usize {
-    let up = d <= times(2, remainder(n, d));
-    plus(quotient(n, d), either(up, 1, 0))
-}
-
-// A colour beside alpha byte a.
-fn straight(p: &[usize], v: usize, a: usize) -> usize {
+// A colour beside alpha byte a: of 255 times it over a the nearest number, the higher one of two, and at most 255.
+fn straight(p: &Picture, v: u8, a: u8) -> u8 {
     let u = flipped(p, v);
-    if at(p, ALPHA) == 2 {
-        u
-    } else {
-        either(a == 0, 0, smaller(255, nearest(times(255, u), a)))
+    if p.alpha == 2 {
+        return u;
     }
+    if a == 0 {
+        return 0;
+    }
+    let (n, d) = (255 * usize::from(u), usize::from(a));
+    let up = d <= 2 * (n % d);
+    u8::try_from(n / d + usize::from(up)).unwrap_or(255)
 }
 
 // Byte k of a picture whose rows are packed.
-fn packed_byte(p: &[usize], file: &[u8], v: usize, k: usize) -> usize {
-    let place = palette_place(at(p, SLOTS), v, column(p, k));
-    if on(p, PALETTE) {
-        colour(p, file, channel(p, k), place)
+fn packed_byte(p: &Picture, file: &[u8], v: u8, k: usize) -> u8 {
+    let at = position_of(p, k);
+    let place = palette_place(p.slots, v, at.column);
+    if p.palette {
+        colour(p, file, at.channel, place)
+    } else if place == 0 {
+        flipped(p, 0)
     } else {
-        flipped(p, times(255, place))
+        flipped(p, 255)
     }
 }
 
 // Byte k of the picture that planes hold.
-pub(crate) fn rendered(p: &[usize], file: &[u8], raw: &[u8], k: usize) -> usize {
-    let v = get(raw, source(p, k));
-    let last = minus(at(p, CH), 1);
-    let c = channel(p, k);
+pub(crate) fn rendered(p: &Picture, file: &[u8], raw: &[u8], k: usize) -> u8 {
+    let v = byte_at(raw, source(p, k));
+    let last = p.ch.saturating_sub(1);
+    let c = position_of(p, k).channel;
     if packed(p) {
         packed_byte(p, file, v, k)
-    } else if at(p, ALPHA) == 0 {
+    } else if p.alpha == 0 {
         flipped(p, v)
     } else if c == last {
         v
     } else {
-        straight(p, v, get(raw, source(p, plus(minus(k, c), last))))
+        let alpha = k.saturating_sub(c).saturating_add(last);
+        straight(p, v, byte_at(raw, source(p, alpha)))
     }
 }
 
 // Whether a byte of a bilevel picture is neither 0 nor 255.
-fn some_odd(p: &[usize], picture: &[u8]) -> bool {
-    let n = at(p, OUTPUT_LEN);
-    let mut found = false;
-    let mut k: usize = 0;
-    while k < n {
-        let v = get(picture, k);
-        if v != 0 && v != 255 {
-            found = true;
-        }
-        k += 1;
-    }
-    found
+fn some_odd(p: &Picture, picture: &[u8]) -> bool {
+    picture
+        .iter()
+        .take(p.output_len)
+        .any(|v| !matches!(*v, 0 | 255))
 }
 
-// The number of the first fault in plane writing, after the record's, 0 for none.
-pub(crate) fn write_fault(p: &[usize], picture: &[u8]) -> usize {
-    if on(p, PALETTE) || at(p, BYTES) == 8 || at(p, ALPHA) == 1 {
-        1
-    } else if at(p, LENGTH) < at(p, OUTPUT_LEN) {
-        3
-    } else if at(p, ROOM) < at(p, SCRATCH_LEN) {
-        4
-    } else {
-        either(at(p, SLOTS) == 8 && some_odd(p, picture), 2, 0)
-    }
+// The first fault in plane writing.
+pub(crate) fn check_write(p: &Picture, picture: &[u8]) -> Result<(), Fault> {
+    check_record(p)?;
+    Fault::Unsupported.when(p.palette || p.bytes == 8 || p.alpha == 1)?;
+    Fault::Truncated.when(p.length < p.output_len)?;
+    Fault::OutputTooSmall.when(p.room < p.scratch_len)?;
+    Fault::Invalid.when(p.slots == 8 && some_odd(p, picture))
 }
 
 // What byte k of the picture, which is v, puts into its byte of the planes: for bilevel one bit.
-fn put_in(p: &[usize], v: usize, k: usize) -> usize {
+fn put_in(p: &Picture, v: u8, k: usize) -> u8 {
+    let at = position_of(p, k);
     let u = flipped(p, v);
-    if at(p, SLOTS) == 8 {
-        return either(u == 255, power(2, minus(7, remainder(column(p, k), 8))), 0);
+    if p.slots == 8 {
+        return if u == 255 { 128 >> (at.column % 8) } else { 0 };
     }
-    let alpha = at(p, ALPHA) != 0 && plus(channel(p, k), 1) == at(p, CH);
-    either(alpha, v, u)
+    let is_alpha = p.alpha != 0 && at.channel.saturating_add(1) == p.ch;
+    if is_alpha { v } else { u }
 }
 
 // Byte b of the planes of a picture: what the bytes whose place it is put there.
-pub(crate) fn plane_byte(p: &[usize], picture: &[u8], b: usize) -> usize {
-    let n = at(p, OUTPUT_LEN);
-    let mut sum: usize = 0;
-    let mut k: usize = 0;
-    while k < n {
-        let v = put_in(p, get(picture, k), k);
-        sum = plus(sum, either(source(p, k) == b, v, 0));
-        k += 1;
-    }
-    sum
+pub(crate) fn plane_byte(p: &Picture, picture: &[u8], b: usize) -> u8 {
+    (0..p.output_len)
+        .filter(|k| source(p, *k) == b)
+        .map(|k| put_in(p, byte_at(picture, k), k))
+        .fold(0, |sum: u8, v| sum.wrapping_add(v))
 }

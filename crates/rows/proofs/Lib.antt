@@ -1,4 +1,5 @@
 pub mod Loops
+pub mod Summed
 pub mod Leading
 pub mod Rows
 pub mod Determined

@@ -17,6 +17,10 @@ use Rattle.samples.proofs.Undo.{sample_below}
 use Rattle.rows.specs.Row.{one_row, RowFits, HeldFits, FewFit, Led, resumed_in, resumed, ResumedInto}
 use Rattle.laws.proofs.Lists.{nothing, zeros}
 
+-- the place of the next of parts of k bytes
+pub next_at : (n k : ℕ) → (n + 1) * k ≡ n * k + k
+next_at n k = omega (arith, add-mul n 1 k, one-mul k)
+
 -- the buffer holds the words v, stored, up to `at`, of n bytes in all
 pub record Upto (v : ℕ → ℕ) (width : ℕ) (out_le : Bool) (n : ℕ) (old : List ℕ) (at : ℕ) (out : List ℕ) : Type 0 where
   pub inside : at ≤ n
@@ -106,8 +110,8 @@ pub all_of : (l : List ℕ) → part 0 (length l) l ≡ l
 all_of l = rw (sub-zero (length l)) (take-length l)
 
 -- a row of at most four channels fits the loop of so many
-pub few-fits : {raw : List ℕ} {channels width : ℕ} {start old : List ℕ} {n : ℕ} → FewFit raw channels width start old → channels ≡ n → HeldFits (part 0 (length raw) raw) n width start old
-few-fits {raw} row e = rw (all_of raw) (rw e at row.row)
+pub few-fits : {raw : List ℕ} {channels width : ℕ} {start old : List ℕ} {n : ℕ} → FewFit raw channels width start old → channels ≡ n → FewFit (part 0 (length raw) raw) n width start old
+few-fits {raw} row e = rw (all_of raw) (rw e at row)
 
 -- its sums as four numbers
 abbrev pub four_of : List ℕ → List ℕ

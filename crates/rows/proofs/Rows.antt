@@ -1,6 +1,6 @@
 -- The loop over a strip's rows: what the strip check has shown of a row, the loop's invariant, how a row keeps it, and what it comes to.
 -- Assumes nothing.
-use Rattle.std.proofs.Common.{◌≡◌, ℕ, ◌+◌, ◌-◌, ◌*◌, ◌%◌, ◌<◌, ◌≤◌, Bool, true, false, List, ◌++◌, length, get_or, take, drop, refl, ap, ◌∙◌, arith, ltb-false}
+use Rattle.std.proofs.Common.{◌≡◌, ℕ, ◌+◌, ◌-◌, ◌*◌, ◌/◌, ◌%◌, ◌<◌, ◌≤◌, Bool, true, false, List, ◌++◌, length, get_or, take, drop, refl, ap, ◌∙◌, le-div_iff_mul-le, div-add-mod', mul-le-mul_right, arith, ltb-false}
 use native.Mathlib.Nat.{zero-mod, add-mod_right, mod_self}
 use borrow.Author.Tests.{not-false}
 use Rattle.answer.specs.Outcome.{Sound}
@@ -14,6 +14,7 @@ use Rattle.samples.specs.Sample.{Strip, strip, Good, stored_at}
 use Rattle.samples.specs.Promises.{strip_faults, convert_faults}
 use Rattle.samples.proofs.Strips.{good_checked, row_checked}
 use Rattle.samples.proofs.Parts.{part_made, part_samples, part_differences}
+use Rattle.rows.proofs.Loops.{next_at}
 use Rattle.rows.specs.Row.{one_row, meant, resumed_in, resumed, RowFits, FewFit, FewRows, RowServed, StripServed}
 
 -- a strip in which the check finds no fault
@@ -36,6 +37,11 @@ row-served raw channels width out is =
 -- a row's room, as a strip that has it alone
 pub one-good : {raw : List ℕ} {channels width : ℕ} {out : List ℕ} → RowFits raw channels width out → 0 < length raw → Good (length raw) (one_row raw channels width)
 one-good {raw} fits some = record { channel = fits.channel; wide = fits.wide; long = some; rows = fits.groups; whole = mod_self (length raw) }
+
+-- row n is there
+pub row_begins : {bytes : ℕ} {g : Strip} {n : ℕ} → Good bytes g → n < bytes / g.row → n * g.row < bytes
+row_begins {bytes} {g} {n} good h =
+    omega (arith, (le-div_iff_mul-le {k = g.row} {x = n + 1} {y = bytes} good.long).0 (omega arith), next_at n g.row, good.long)
 
 -- the buffer holds the bytes f of the strip's rows up to `at`
 pub record RowsUpto (f : ℕ → ℕ) (raw : List ℕ) (g : Strip) (old : List ℕ) (at : ℕ) (out : List ℕ) : Type 0 where
@@ -80,6 +86,11 @@ module _ {f : ℕ → ℕ} {raw : List ℕ} {g : Strip} {old : List ℕ} {at : �
 
   pub rows_ended : length raw ≤ at → out ≡ filled (length raw) f old
   rows_ended l = let all : at ≡ length raw = omega (arith, is.inside) in rw all at is.so_far
+
+-- and after all of them
+pub rows_through : {f : ℕ → ℕ} {raw : List ℕ} {g : Strip} {old : List ℕ} {n : ℕ} {out : List ℕ} → Good (length raw) g → length raw ≤ length old → RowsUpto f raw g old (n * g.row) out → length raw / g.row ≤ n → out ≡ filled (length raw) f old
+rows_through {raw = raw} {g = g} {n = n} good room is l =
+    rows_ended good room is (omega (arith, div-add-mod' (length raw) g.row, good.whole, mul-le-mul_right {m = length raw / g.row} {n = n} g.row l))
 
 -- a strip's rows, predicted or undone
 module _ {f : ℕ → ℕ} {raw : List ℕ} {g : Strip} {old : List ℕ} {at : ℕ} {out : List ℕ} (fits : StripServed raw g old) (is : RowsUpto f raw g old at out) (more : at < length raw) where

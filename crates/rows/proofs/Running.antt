@@ -125,33 +125,9 @@ module _ (raw : List ℕ) (channels width : ℕ) (le : Bool) (start : List ℕ) 
       by j (no m) = kept n j (omega arith) ∙ sym (filled_rest channels _ start j (omega arith))
 
 -- the last pixel, read back channel by channel
-pub record HeldTo (out : List ℕ) (last channels width : ℕ) (out_le : Bool) (old sums : List ℕ) (at channel : ℕ) : Type 0 where
-  pub inside : channel ≤ channels
-  pub there : at ≡ last + channel * width
-  pub same : length sums ≡ length old
-  pub so_far : sums ≡ filled channel (λ j. word_at out (last + j * width) width out_le) old
-
-module _ {out : List ℕ} {last channels width : ℕ} {sums : List ℕ} (fits : LastFits out last channels width sums) where
-  pub held_none : (out_le : Bool) → HeldTo out last channels width out_le sums sums last 0
-  held_none out_le = record { inside = omega arith; there = omega (arith, zero-mul width); same = refl; so_far = refl }
-
-  module _ {out_le : Bool} {now_sums : List ℕ} {at channel : ℕ} (is : HeldTo out last channels width out_le sums now_sums at channel) where
-    pub held-room : channel < channels → at + width ≤ length out
-    held-room more = omega (arith, is.there, fits.inside, add-mul channel 1 width, one-mul width, mul-le-mul_right {m = channel + 1} {n = channels} width (omega arith))
-
-    pub held-inside : channel < channels → channel < length now_sums
-    held-inside more = omega (arith, is.same, fits.held, fits.long)
-
-    pub held_turned : channel < channels → (x : ℕ) → x ≡ word_at out at width out_le → HeldTo out last channels width out_le sums (set now_sums channel x) (at + width) (channel + 1)
-    held_turned more x e = record {
-      inside = omega arith;
-      there = omega (arith, is.there, add-mul channel 1 width, one-mul width);
-      same = rw length-set is.same;
-      so_far = filled-one (λ j. word_at out (last + j * width) width out_le) sums channel is.so_far (e ∙ ap (λ (k : ℕ). word_at out k width out_le) is.there) (omega (arith, fits.held, fits.long));
-    }
-
-    pub held_ended : channels ≤ channel → Held out last channels width out_le sums now_sums
-    held_ended l = let all : channel ≡ channels = omega (arith, is.inside) in rw all at is.so_far
+pub held_turned : {out : List ℕ} {last channels width : ℕ} {sums : List ℕ} → LastFits out last channels width sums → (out_le : Bool) {so_far : List ℕ} {channel : ℕ} → so_far ≡ filled channel (λ j. word_at out (last + j * width) width out_le) sums → channel < channels → (x : ℕ) → x ≡ word_at out (last + channel * width) width out_le → set so_far channel x ≡ filled (channel + 1) (λ j. word_at out (last + j * width) width out_le) sums
+held_turned {out} {last} {channels} {width} {sums} fits out_le {so_far} {channel} is more x e =
+    filled-one (λ j. word_at out (last + j * width) width out_le) sums channel is e (omega (arith, fits.held, fits.long))
 
 -- whole pixels
 module _ {raw : List ℕ} {channels width : ℕ} {start old : List ℕ} (fit : PixelsFit raw channels width start old) where

@@ -17,6 +17,7 @@ pub(crate) fn differences(
     ensures { TransformedInto raw.now (one_row raw.now channels width) true le out_le true out.old out.new }
 {
     let step = channels * width;
+    // By hand: over a count of words the compiler turns words of eight bytes in vectors, 0.56 to 0.79 as fast; `step_by` is 0.64 to 0.9 as fast.
     let mut at = step;
     while at < raw.len() {
         let less = word::sub(

@@ -1,31 +1,38 @@
 // Rows of at most four channels, from the sums that they start with.
-ghost use Rattle.std.specs.Prelude.{not, [], ◌∷◌};
+ghost use Rattle.std.specs.Prelude.{not, true, false, [], ◌∷◌};
+ghost use Rattle.answer.specs.Outcome.{pick};
 ghost use Rattle.samples.specs.Sample.{strip};
 ghost use Rattle.rows.specs.Row.{FewFit, ResumedInto, FewRows, ResumedRows};
 
-use crate::{fours, sums, threes, twos};
+use crate::held::held;
 
-// The samples in the order that the words come in. The row is lent anew, whole: so its place and its length come in registers, and are not
-// stored and read back.
-fn alike(raw: &[u8], channels: usize, width: usize, le: bool, start: &[u64], out: &mut [u8])
+// The row is lent anew, whole: so its place and its length come in registers, and are not stored and read back.
+fn by_channels<const TURNED: bool>(
+    raw: &[u8],
+    channels: usize,
+    width: usize,
+    le: bool,
+    start: &[u64],
+    out: &mut [u8],
+)
     requires { FewFit raw.now channels width start.now out.old }
-    ensures { ResumedInto raw.now channels width le le start.now out.old out.new }
+    ensures { ResumedInto raw.now channels width le (pick TURNED (not le) le) start.now out.old out.new }
 {
     let from: usize = 0;
     let row = &raw[from..];
     if channels == 1 {
-        sums::alike(row, width, le, start, out)
+        held::<1, TURNED>(row, width, le, start, out)
     } else if channels == 2 {
-        twos::alike(row, width, le, start, out)
+        held::<2, TURNED>(row, width, le, start, out)
     } else if channels == 3 {
-        threes::alike(row, width, le, start, out)
+        held::<3, TURNED>(row, width, le, start, out)
     } else {
-        fours::alike(row, width, le, start, out)
+        held::<4, TURNED>(row, width, le, start, out)
     }
 }
 
-// In the other order. The sums come as numbers: of those the compiler makes no vector of a pixel, which is slower than its words one by one
-// where they have eight bytes that are turned.
+// In the other order than the words come in. The sums come as numbers: of those the compiler makes no vector of a pixel, which is slower
+// than its words one by one where they have eight bytes that are turned.
 fn turned(
     raw: &[u8],
     channels: usize,
@@ -40,18 +47,7 @@ fn turned(
     requires { FewFit raw.now channels width (a ∷ b ∷ c ∷ d ∷ []) out.old }
     ensures { ResumedInto raw.now channels width le (not le) (a ∷ b ∷ c ∷ d ∷ []) out.old out.new }
 {
-    let start = [a, b, c, d];
-    let from: usize = 0;
-    let row = &raw[from..];
-    if channels == 1 {
-        sums::turned(row, width, le, &start, out)
-    } else if channels == 2 {
-        twos::turned(row, width, le, &start, out)
-    } else if channels == 3 {
-        threes::turned(row, width, le, &start, out)
-    } else {
-        fours::turned(row, width, le, &start, out)
-    }
+    by_channels::<true>(raw, channels, width, le, &[a, b, c, d], out)
 }
 
 fn few(
@@ -68,7 +64,7 @@ fn few(
 {
     match le {
         true => match out_le {
-            true => alike(raw, channels, width, le, start, out),
+            true => by_channels::<false>(raw, channels, width, le, start, out),
             false => turned(
                 raw, channels, width, le, start[0], start[1], start[2], start[3], out,
             ),
@@ -77,12 +73,13 @@ fn few(
             true => turned(
                 raw, channels, width, le, start[0], start[1], start[2], start[3], out,
             ),
-            false => alike(raw, channels, width, le, start, out),
+            false => by_channels::<false>(raw, channels, width, le, start, out),
         },
     }
 }
 
-// Each row from the same sums: the loops are called from here alone, so that the compiler puts them in this one.
+// Each row from the same sums.
+// The loops are called from here alone, so that the compiler puts them in this one.
 pub(crate) fn rows(
     raw: &[u8],
     row_bytes: usize,
@@ -96,12 +93,11 @@ pub(crate) fn rows(
     requires { FewRows raw.now (strip row_bytes channels width) start.now out.old }
     ensures { ResumedRows raw.now (strip row_bytes channels width) le out_le start.now out.old out.new }
 {
-    let mut at: usize = 0;
-    while at < raw.len() {
+    for n in 0..raw.len() / row_bytes {
+        let at = n * row_bytes;
         let end = at + row_bytes;
         let row = &raw[at..end];
         let to = &mut out[at..end];
         few(row, channels, width, le, out_le, start, to);
-        at = end;
     }
 }

@@ -1,18 +1,16 @@
 // A strip's rows, predicted or with prediction undone: each kind of row in a loop of its own, for every width and both byte orders.
 #![tactic(auto)]
 
+mod arms;
 mod differences;
 mod few;
-mod fours;
+mod held;
 mod resume;
 mod steps;
-mod sums;
-mod threes;
 mod trails;
-mod twos;
 mod word;
 
-ghost use Rattle.std.specs.Prelude.{true};
+ghost use Rattle.std.specs.Prelude.{true, ◌*◌};
 ghost use Rattle.samples.specs.Sample.{strip};
 ghost use Rattle.rows.specs.Resume.{RowResumed};
 ghost use Rattle.rows.specs.Row.{RowServed, StripServed, RoomChecked, LeadFits, LedInto, one_row, TransformedInto, Transformed, RowTransformed};
@@ -20,14 +18,13 @@ ghost use Rattle.rows.specs.Row.{RowServed, StripServed, RoomChecked, LeadFits, 
 use answer::Refusal;
 
 // The first words of a row, which stand for themselves.
-fn lead(raw: &[u8], step: usize, width: usize, le: bool, out_le: bool, out: &mut [u8])
-    requires { LeadFits raw.now step width out.old }
-    ensures { LedInto raw.now step width le out_le out.old out.new }
+fn lead(raw: &[u8], channels: usize, width: usize, le: bool, out_le: bool, out: &mut [u8])
+    requires { LeadFits raw.now (channels * width) width out.old }
+    ensures { LedInto raw.now (channels * width) width le out_le out.old out.new }
 {
-    let mut at: usize = 0;
-    while at < step {
+    for n in 0..channels {
+        let at = n * width;
         word::put(out, at, width, out_le, word::get(raw, at, width, le));
-        at += width;
     }
 }
 
@@ -47,7 +44,7 @@ fn transform_words(
 {
     if predict {
         if forward | (4 < channels) {
-            lead(raw, channels * width, width, le, out_le, out);
+            lead(raw, channels, width, le, out_le, out);
             steps::steps(raw, channels, width, le, out_le, forward, out)
         } else {
             let none = [0u64; 4];
@@ -72,13 +69,12 @@ fn predicted_rows(
     requires { StripServed raw.now (strip row_bytes channels width) out.old }
     ensures { TransformedInto raw.now (strip row_bytes channels width) true le out_le forward out.old out.new }
 {
-    let mut at: usize = 0;
-    while at < raw.len() {
+    for n in 0..raw.len() / row_bytes {
+        let at = n * row_bytes;
         let end = at + row_bytes;
         let row = &raw[at..end];
         let to = &mut out[at..end];
         transform_words(row, channels, width, le, true, out_le, forward, to);
-        at = end;
     }
 }
 

@@ -48,12 +48,8 @@ fn held(out: &[u8], last: usize, channels: usize, width: usize, out_le: bool, su
     requires { LastFits out.now last channels width sums.old }
     ensures { Held out.now last channels width out_le sums.old sums.new }
 {
-    let mut at = last;
-    let mut channel: usize = 0;
-    while channel < channels {
-        sums[channel] = word::get(out, at, width, out_le);
-        at += width;
-        channel += 1;
+    for channel in 0..channels {
+        sums[channel] = word::get(out, last + channel * width, width, out_le);
     }
 }
 

@@ -3,7 +3,7 @@ ghost use Rattle.std.specs.Prelude.{◌≡◌, true};
 ghost use Rattle.words.specs.Promises.{served};
 ghost use Rattle.rows.specs.Row.{meant_at, one_row, Led, TransformedInto};
 
-use crate::{differences, trails};
+use crate::{arms, differences, trails};
 
 fn steps_of(
     raw: &[u8],
@@ -24,7 +24,6 @@ fn steps_of(
     }
 }
 
-// Arms as in `sums`; the last serves any other width.
 pub(crate) fn steps(
     raw: &[u8],
     channels: usize,
@@ -37,61 +36,17 @@ pub(crate) fn steps(
     requires { (served width ≡ true) × Led (meant_at raw.now channels width le out_le forward) raw.now channels width out.old }
     ensures { TransformedInto raw.now (one_row raw.now channels width) true le out_le forward out.old out.new }
 {
-    if 3 < width {
-        if width == 8 {
-            match le {
-                true => match out_le {
-                    true => steps_of(raw, channels, width, le, out_le, forward, out),
-                    false => steps_of(raw, channels, width, le, out_le, forward, out),
-                },
-                false => match out_le {
-                    true => steps_of(raw, channels, width, le, out_le, forward, out),
-                    false => steps_of(raw, channels, width, le, out_le, forward, out),
-                },
-            }
-        } else if width == 4 {
-            match le {
-                true => match out_le {
-                    true => steps_of(raw, channels, width, le, out_le, forward, out),
-                    false => steps_of(raw, channels, width, le, out_le, forward, out),
-                },
-                false => match out_le {
-                    true => steps_of(raw, channels, width, le, out_le, forward, out),
-                    false => steps_of(raw, channels, width, le, out_le, forward, out),
-                },
-            }
-        } else {
-            steps_of(raw, channels, width, le, out_le, forward, out)
-        }
-    } else if width == 3 {
-        match le {
-            true => match out_le {
-                true => steps_of(raw, channels, width, le, out_le, forward, out),
-                false => steps_of(raw, channels, width, le, out_le, forward, out),
-            },
-            false => match out_le {
-                true => steps_of(raw, channels, width, le, out_le, forward, out),
-                false => steps_of(raw, channels, width, le, out_le, forward, out),
-            },
-        }
-    } else if width == 2 {
-        match le {
-            true => match out_le {
-                true => steps_of(raw, channels, width, le, out_le, forward, out),
-                false => steps_of(raw, channels, width, le, out_le, forward, out),
-            },
-            false => match out_le {
-                true => steps_of(raw, channels, width, le, out_le, forward, out),
-                false => steps_of(raw, channels, width, le, out_le, forward, out),
-            },
-        }
-    } else if width == 1 {
-        steps_of(raw, channels, width, le, out_le, forward, out)
+    if out_le == le {
+        arms::known(
+            width,
+            le,
+            &mut |width, le| { steps_of(raw, channels, width, le, le, forward, out) },
+        )
     } else {
-        if forward {
-            differences::differences(raw, channels, width, le, out_le, out)
-        } else {
-            trails::trails(raw, channels, width, le, out_le, out)
-        }
+        arms::known(
+            width,
+            le,
+            &mut |width, le| { steps_of(raw, channels, width, le, !le, forward, out) },
+        )
     }
 }

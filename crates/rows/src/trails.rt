@@ -17,6 +17,7 @@ pub(crate) fn trails(
     ensures { TransformedInto raw.now (one_row raw.now channels width) true le out_le false out.old out.new }
 {
     let step = channels * width;
+    // By hand: over a count of words the compiler turns words of eight bytes in vectors, 0.2 to 0.6 as fast; `step_by` is 0.56 to 0.9 as fast.
     let mut at = step;
     while at < raw.len() {
         let sample = word::sum(raw, at, width, le, word::get(out, at - step, width, out_le));

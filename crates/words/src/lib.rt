@@ -8,57 +8,46 @@ ghost use Rattle.words.specs.Promises.{served, load_width, Joined, Placed, ReadW
 use answer::{ByteAt, Refusal, SampleAt};
 
 // Whether words of this many bytes are read.
+#[tactic(auto, unfolding(crate::specs::Promises::served))]
 pub fn width_served(width: usize) -> bool
     ensures { result ≡ served width }
 {
-    if width == 1 {
-        return true;
-    }
-    if width == 2 {
-        return true;
-    }
-    if width == 3 {
-        return true;
-    }
-    if width == 4 {
-        return true;
-    }
-    width == 8
+    matches!(width, 1 | 2 | 3 | 4 | 8)
 }
 
 // The word of two bytes, the least significant first.
 pub fn join2(a: u8, b: u8) -> u16
     ensures { Joined (a ∷ b ∷ []) result }
 {
-    (a as u16) + 256 * (b as u16)
+    u16::from_le_bytes([a, b])
 }
 
 // The word of three bytes, the least significant first.
 pub fn join3(a: u8, b: u8, c: u8) -> u32
     ensures { Joined (a ∷ b ∷ c ∷ []) result }
 {
-    (join2(a, b) as u32) + 65536 * (c as u32)
+    u32::from_le_bytes([a, b, c, 0])
 }
 
 // The word of four bytes, the least significant first.
 pub fn join4(a: u8, b: u8, c: u8, d: u8) -> u32
     ensures { Joined (a ∷ b ∷ c ∷ d ∷ []) result }
 {
-    (a as u32) + 256 * (b as u32) + 65536 * (c as u32) + 16777216 * (d as u32)
+    u32::from_le_bytes([a, b, c, d])
 }
 
 // The word of eight bytes, the least significant first.
 pub fn join8(a: u8, b: u8, c: u8, d: u8, e: u8, f: u8, g: u8, h: u8) -> u64
     ensures { Joined (a ∷ b ∷ c ∷ d ∷ e ∷ f ∷ g ∷ h ∷ []) result }
 {
-    (join4(a, b, c, d) as u64) + 4294967296 * (join4(e, f, g, h) as u64)
+    u64::from_le_bytes([a, b, c, d, e, f, g, h])
 }
 
 // The bytes of a word backwards: two of them.
 pub fn backwards2(v: u16) -> u16
     ensures { result ≡ backwards 2 v }
 {
-    v % 256 * 256 + v / 256 % 256
+    u16::swap_bytes(v)
 }
 
 // Three, the low ones of any number.
@@ -72,22 +61,14 @@ pub fn backwards3(v: u32) -> u32
 pub fn backwards4(v: u32) -> u32
     ensures { result ≡ backwards 4 v }
 {
-    v % 256 * 16777216 + v / 256 % 256 * 65536 + v / 65536 % 256 * 256 + v / 16777216 % 256
+    u32::swap_bytes(v)
 }
 
 // Eight.
 pub fn backwards8(v: u64) -> u64
     ensures { result ≡ backwards 8 v }
 {
-    let low = v % 256 * 72057594037927936
-        + v / 256 % 256 * 281474976710656
-        + v / 65536 % 256 * 1099511627776
-        + v / 16777216 % 256 * 4294967296;
-    let high = v / 4294967296 % 256 * 16777216
-        + v / 1099511627776 % 256 * 65536
-        + v / 281474976710656 % 256 * 256
-        + v / 72057594037927936 % 256;
-    low + high
+    u64::swap_bytes(v)
 }
 
 // The byte at which sample i begins, among `length` bytes of samples of this width.

@@ -1,12 +1,8 @@
 -- `damage::mark_rows` meets its contract: the invariant and its laws are in proofs/MarkedRows.antt. Assumes nothing.
-use Prim.Native.Nat.{◌-◌}
-use lib.ListN.{length}
+use Prim.Native.Nat.{◌*◌, ◌/◌}
 use Rattle.samples.specs.Sample.{strip}
 use Rattle.damage.proofs.MarkedRows.{MarkedRows}
 use Rattle.damage.proofs.mark_rows.Given as goal
 
-abbrev pub invariant-loop-at : goal.invariant-loop-at
-invariant-loop-at l = MarkedRows l.damage (strip l.row_bytes l.channels l.width) l.initial.marks l.count l.at l.n l.marks
-
-abbrev pub decreases-loop-at : goal.decreases-loop-at
-decreases-loop-at l = length l.damage - l.at
+abbrev pub invariant-loop-row : goal.invariant-loop-row
+invariant-loop-row l = MarkedRows l.damage (strip l.row_bytes l.channels l.width) l.initial.marks l.count (l.row * l.row_bytes) (l.row * l.row_marks) l.marks

@@ -5,7 +5,8 @@ use mathlib.Core.List.{List}
 use Prim.Native.Nat.{ℕ}
 use lib.ListN.{length}
 use Rattle.answer.specs.Outcome.{here, next, none, Sound}
-use Rattle.answer.proofs.Promised.{handed_on, passed, stopped, refuses, first_more, sound_then, sound_more}
+use Rattle.answer.proofs.Handed.{handed}
+use Rattle.answer.proofs.Promised.{passed, stopped, refuses, first_more, sound_then, sound_more}
 use Rattle.samples.specs.Sample.{Strip, strip}
 use Rattle.samples.specs.Promises.{strip_faults}
 use Rattle.damage.specs.Promises.{samples_of, mark_faults}
@@ -40,7 +41,7 @@ returns-in_err-check_strip c =
     let given : List ℕ = c.args.damage.now in
     let geometry : Strip = strip c.args.row_bytes c.args.channels c.args.width in
     let buffer : List ℕ = c.args.marks.now in
-    rw (handed_on c.from_residual.result c.from_residual.ensures.1)
+    rw (handed c.from_residual.result _ c.from_residual.ensures)
     (exactly given geometry c.args.predict buffer _ _
     (refuses (mark_faults given geometry buffer) _ _ _ (first_more _ (stopped (strip_faults (length given) geometry) c.check_strip.result _ c.check_strip.ensures c.in_err-check_strip.was))))
 

@@ -1,7 +1,8 @@
 -- `layout::check_layout` meets its contract: the steps' refusal, or the record. Assumes nothing.
 use mathlib.Core.Path.{ap, ◌∙◌}
 use Rattle.answer.specs.Outcome.{done}
-use Rattle.answer.proofs.Promised.{handed_on, refusing, finishing, step-sound, step-first}
+use Rattle.answer.proofs.Handed.{handed}
+use Rattle.answer.proofs.Promised.{refusing, finishing, step-sound, step-first}
 use Rattle.layout.specs.Layout.{layout_faults, completed}
 use Rattle.layout.proofs.check_layout.Goals as goal
 
@@ -12,7 +13,7 @@ complete-requires c =
 pub returns-in_err-check_fields : goal.returns-in_err-check_fields
 returns-in_err-check_fields c =
     let f = c.args.f in
-    rw (handed_on c.from_residual.result c.from_residual.ensures.1) (refusing (layout_faults f) (completed f) (step-first c.check_fields.ensures c.in_err-check_fields.was))
+    rw (handed c.from_residual.result _ c.from_residual.ensures) (refusing (layout_faults f) (completed f) (step-first c.check_fields.ensures c.in_err-check_fields.was))
 
 pub returns : goal.returns
 returns c =

@@ -3,7 +3,8 @@ use borrow.Author.Tests.{le-leb, lt-leb}
 use mathlib.Core.Path.{ap, ◌∙◌}
 use native.Mathlib.Omega.{arith}
 use Rattle.answer.specs.Outcome.{done, Sound, here, next, none}
-use Rattle.answer.proofs.Promised.{handed_on, refusing, finishing, first_more, sound_then, sound_more, passed, stopped}
+use Rattle.answer.proofs.Handed.{handed}
+use Rattle.answer.proofs.Promised.{refusing, finishing, first_more, sound_then, sound_more, passed, stopped}
 use Rattle.layout.specs.Layout.{record_faults, index_faults, source_index}
 use Rattle.layout.proofs.index.Goals.{In_ok-check_record}
 use Rattle.layout.proofs.index.Goals as goal
@@ -25,7 +26,7 @@ pub returns-in_err-check_record : goal.returns-in_err-check_record
 returns-in_err-check_record c =
     let l = c.args.l in
     let k = c.args.k.0 in
-    rw (handed_on c.from_residual.result c.from_residual.ensures.1) (refusing (index_faults l k) (source_index l k) (first_more _ (stopped (record_faults l) _ _ c.check_record.ensures c.in_err-check_record.was)))
+    rw (handed c.from_residual.result _ c.from_residual.ensures) (refusing (index_faults l k) (source_index l k) (first_more _ (stopped (record_faults l) _ _ c.check_record.ensures c.in_err-check_record.was)))
 
 pub returns : goal.returns
 returns c =

@@ -8,6 +8,6 @@ use Rattle.packbits.proofs.unpack_row.Goals as goal
 
 pub fill_row-requires : goal.fill_row-requires
 fill_row-requires c =
-    let done : let args = c.args in let n = length args.row.now in (c.in-Used.n ≡ used args.packed.now n) × Sound (row_faults args.packed.now n) = let packed = c.args.packed.now in
-    let n = length c.args.row.now in answered outcome (row_faults packed n) (used packed n) c.row_used.ensures c.in-Used.is refl in
+    let done : let args = c.args in let n = length args.row.now in (c.in_ok-n.n ≡ used args.packed.now n) × Sound (row_faults args.packed.now n) = let packed = c.args.packed.now in
+    let n = length c.args.row.now in answered outcome (row_faults packed n) (used packed n) c.row_used.ensures c.in_ok-n.was refl in
     done.1

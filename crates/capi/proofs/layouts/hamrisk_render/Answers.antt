@@ -10,26 +10,26 @@ use Rattle.capi.specs.OnLayouts.{fields_of}
 use Rattle.capi.proofs.OnLayouts.{render_refused, handed_on, flag_refused, flag_never_done}
 use Rattle.capi.proofs.layouts.hamrisk_render.Goals as goal
 
-pub returns-in-Refused : goal.returns-in-Refused
-returns-in-Refused c =
+pub returns-in-Err : goal.returns-in-Err
+returns-in-Err c =
     let a = c.args in
     record {
       served = λ e. record {
-        answer = Err c.in-Refused.kind;
-        allowed = render_refused (fields_of a.layout.now) (c.asked.ensures.served e) c.in-Refused.is a.file.now a.raw.now a.out.now;
-        number_is = c.number.ensures;
+        answer = Err c.in-Err.kind;
+        allowed = render_refused (fields_of a.layout.now) (c.asked.ensures.served e) c.in-Err.is a.file.now a.raw.now a.out.now;
+        number_is = c.from.ensures;
       };
-      unserved = λ e. (c.number.ensures ∙ flag_refused c.asked.ensures e c.in-Refused.is, refl);
+      unserved = λ e. (c.from.ensures ∙ flag_refused c.asked.ensures e c.in-Err.is, refl);
     }
 
-pub returns-in-Done : goal.returns-in-Done
-returns-in-Done c =
+pub returns-in-Ok : goal.returns-in-Ok
+returns-in-Ok c =
     let a = c.args in
     record {
       served = λ e. record {
         answer = c.render.result;
-        allowed = handed_on (fields_of a.layout.now) (c.asked.ensures.served e) (λ (l : RasterLayout) (new : List ℕ). Rendered l a.file.now a.raw.now a.out.now c.render.result new) _ c.in-Done.is c.render.ensures;
+        allowed = handed_on (fields_of a.layout.now) (c.asked.ensures.served e) (λ (l : RasterLayout) (new : List ℕ). Rendered l a.file.now a.raw.now a.out.now c.render.result new) _ c.in-Ok.is c.render.ensures;
         number_is = c.status.ensures;
       };
-      unserved = λ e. flag_never_done c.asked.ensures e c.in-Done.is;
+      unserved = λ e. flag_never_done c.asked.ensures e c.in-Ok.is;
     }

@@ -11,23 +11,23 @@ use Rattle.capi.proofs.Telling.{lent_as}
 use Rattle.capi.proofs.OnLayouts.{file_refused, handed_on, flag_refused, flag_never_done}
 use Rattle.capi.proofs.layouts.hamrisk_write_file.Goals as goal
 
-pub returns-in-Refused : goal.returns-in-Refused
-returns-in-Refused c =
+pub returns-in-Err : goal.returns-in-Err
+returns-in-Err c =
     let a = c.args in
     record {
       served = λ e. record {
-        answer = Err c.in-Refused.kind;
-        allowed = file_refused (fields_of a.layout.now) (c.asked.ensures.served e) c.in-Refused.is a.rows_per_strip a.planes.now a.out.now;
-        number_is = c.number.ensures;
+        answer = Err c.in-Err.kind;
+        allowed = file_refused (fields_of a.layout.now) (c.asked.ensures.served e) c.in-Err.is a.rows_per_strip a.planes.now a.out.now;
+        number_is = c.from.ensures;
         value-is = refl;
       };
-      unserved = λ e. (c.number.ensures ∙ flag_refused c.asked.ensures e c.in-Refused.is, refl);
+      unserved = λ e. (c.from.ensures ∙ flag_refused c.asked.ensures e c.in-Err.is, refl);
     }
 
-pub returns-in-Done : goal.returns-in-Done
-returns-in-Done c =
+pub returns-in-Ok : goal.returns-in-Ok
+returns-in-Ok c =
     let a = c.args in
     record {
-      served = λ e. lent_as c.length_of.ensures (handed_on (fields_of a.layout.now) (c.asked.ensures.served e) (λ (l : RasterLayout) (new : List ℕ). FileWritten l a.rows_per_strip a.planes.now a.out.now c.write_file.result new) _ c.in-Done.is c.write_file.ensures);
-      unserved = λ e. flag_never_done c.asked.ensures e c.in-Done.is;
+      served = λ e. lent_as c.lend.ensures (handed_on (fields_of a.layout.now) (c.asked.ensures.served e) (λ (l : RasterLayout) (new : List ℕ). FileWritten l a.rows_per_strip a.planes.now a.out.now c.write_file.result new) _ c.in-Ok.is c.write_file.ensures);
+      unserved = λ e. flag_never_done c.asked.ensures e c.in-Ok.is;
     }

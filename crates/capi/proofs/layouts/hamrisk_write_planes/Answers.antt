@@ -10,26 +10,26 @@ use Rattle.capi.specs.OnLayouts.{fields_of}
 use Rattle.capi.proofs.OnLayouts.{write_refused, handed_on, flag_refused, flag_never_done}
 use Rattle.capi.proofs.layouts.hamrisk_write_planes.Goals as goal
 
-pub returns-in-Refused : goal.returns-in-Refused
-returns-in-Refused c =
+pub returns-in-Err : goal.returns-in-Err
+returns-in-Err c =
     let a = c.args in
     record {
       served = λ e. record {
-        answer = Err c.in-Refused.kind;
-        allowed = write_refused (fields_of a.layout.now) (c.asked.ensures.served e) c.in-Refused.is a.picture.now a.planes.now;
-        number_is = c.number.ensures;
+        answer = Err c.in-Err.kind;
+        allowed = write_refused (fields_of a.layout.now) (c.asked.ensures.served e) c.in-Err.is a.picture.now a.planes.now;
+        number_is = c.from.ensures;
       };
-      unserved = λ e. (c.number.ensures ∙ flag_refused c.asked.ensures e c.in-Refused.is, refl);
+      unserved = λ e. (c.from.ensures ∙ flag_refused c.asked.ensures e c.in-Err.is, refl);
     }
 
-pub returns-in-Done : goal.returns-in-Done
-returns-in-Done c =
+pub returns-in-Ok : goal.returns-in-Ok
+returns-in-Ok c =
     let a = c.args in
     record {
       served = λ e. record {
         answer = c.write_planes.result;
-        allowed = handed_on (fields_of a.layout.now) (c.asked.ensures.served e) (λ (l : RasterLayout) (new : List ℕ). Written l a.picture.now a.planes.now c.write_planes.result new) _ c.in-Done.is c.write_planes.ensures;
+        allowed = handed_on (fields_of a.layout.now) (c.asked.ensures.served e) (λ (l : RasterLayout) (new : List ℕ). Written l a.picture.now a.planes.now c.write_planes.result new) _ c.in-Ok.is c.write_planes.ensures;
         number_is = c.status.ensures;
       };
-      unserved = λ e. flag_never_done c.asked.ensures e c.in-Done.is;
+      unserved = λ e. flag_never_done c.asked.ensures e c.in-Ok.is;
     }

@@ -1,11 +1,6 @@
 -- `packbits::plans::plan_length` meets its contract: the first packet without room decides. Assumes nothing.
-use Prim.Native.Nat.{◌-◌, ◌≤◌}
-use lib.ListN.{length}
 use Rattle.packbits.proofs.Planning.{Counted}
 use Rattle.packbits.proofs.plans.plan_length.Given as goal
 
 abbrev pub invariant-loop-k : goal.invariant-loop-k
-invariant-loop-k l = (l.k ≤ length l.kinds) × Counted l.kinds l.lengths l.room l.n l.k
-
-abbrev pub decreases-loop-k : goal.decreases-loop-k
-decreases-loop-k l = length l.kinds - l.k
+invariant-loop-k l = Counted l.kinds l.lengths l.room l.n l.k

@@ -1,8 +1,7 @@
 -- `packbits::writing::put_plan` meets its contract: each packet goes where the one before it ended. Assumes nothing.
-use native.Mathlib.Omega.{arith}
 use Rattle.packbits.proofs.Putting.{putting_on}
 use Rattle.packbits.proofs.writing.put_plan.Goals as goal
 
 pub loop-k-preserved : goal.loop-k-preserved
 loop-k-preserved c =
-    (omega (arith, c.loop-k-test.true), rw c.packet_length-to.ensures (putting_on c.requires.paired c.loop-k.invariant.1 c.loop-k-test.true c.put_planned.ensures))
+    rw c.packet_length-to.ensures (putting_on c.requires.paired c.loop-k.invariant c.loop-k-test.true c.put_planned.ensures)

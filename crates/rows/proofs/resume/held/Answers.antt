@@ -1,7 +1,7 @@
--- `rows::resume::held` meets its contract: the invariant and its laws are in proofs/Running.antt. Assumes nothing.
+-- `rows::resume::held` meets its contract: the sums so far are the words at their places. Assumes nothing.
 use Rattle.rows.proofs.Running.{held_turned}
 use Rattle.rows.proofs.resume.held.Goals as goal
 
 pub loop-channel-preserved : goal.loop-channel-preserved
 loop-channel-preserved c =
-    held_turned c.requires c.loop-channel.invariant c.loop-channel-test.true _ c.get.ensures
+    held_turned c.requires c.args.out_le c.loop-channel.invariant c.loop-channel-test.true _ c.get.ensures

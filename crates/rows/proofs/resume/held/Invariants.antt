@@ -1,10 +1,8 @@
--- `rows::resume::held` meets its contract: the invariant and its laws are in proofs/Running.antt. Assumes nothing.
-use Rattle.std.proofs.Common.{◌-◌}
-use Rattle.rows.proofs.Running.{HeldTo}
+-- `rows::resume::held` meets its contract: the sums so far are the words at their places. Assumes nothing.
+use Rattle.std.proofs.Common.{◌≡◌, ◌+◌, ◌*◌}
+use Rattle.answer.specs.Table.{filled}
+use Rattle.words.specs.Word.{word_at}
 use Rattle.rows.proofs.resume.held.Given as goal
 
 abbrev pub invariant-loop-channel : goal.invariant-loop-channel
-invariant-loop-channel l = HeldTo l.out l.last l.channels l.width l.out_le l.initial.sums l.sums l.at l.channel
-
-abbrev pub decreases-loop-channel : goal.decreases-loop-channel
-decreases-loop-channel l = l.channels - l.channel
+invariant-loop-channel l = l.sums ≡ filled l.channel (λ j. word_at l.out (l.last + j * l.width) l.width l.out_le) l.initial.sums

@@ -1,0 +1,31 @@
+-- `rows::held::pixels` meets its contract, at every width and for every number of channels: what is stored so far are the samples, and the sums
+-- are those of proofs/Summed.antt. Assumes nothing.
+use Rattle.std.proofs.Common.{◌≡◌, ◌+◌, ◌*◌, ◌<◌, ◌≤◌, add-zero, add-mul, one-mul, mul-le-mul, arith}
+use Rattle.words.proofs.Served.{served-some}
+use Rattle.rows.proofs.Summed.{summed-first, summed-next, summed-on, stored-on, row_begun, row_ended}
+use Rattle.rows.proofs.held.pixels.Goals as goal
+
+pub overflow_mul-pixel : goal.overflow_mul-pixel
+overflow_mul-pixel g c =
+    omega (arith, mul-le-mul c.requires.few (served-some c.args.width c.requires.row.takes).1)
+
+pub loop-n-init : goal.loop-n-init
+loop-n-init g c =
+    let args = c.args in
+    (row_begun c.requires.row args.le args.out_le, rw c.copy_from_slice.ensures.after (summed-first args.raw.now g.row.N args.width args.le args.start.now c.requires.row.held))
+
+pub loop-c-preserved : goal.loop-c-preserved
+loop-c-preserved g c =
+    summed-on c.requires.row c.loop-n-test.true c.loop-c-test.true c.loop-c.invariant c.sum.result c.sum.ensures
+
+pub loop-c-2-preserved : goal.loop-c-2-preserved
+loop-c-2-preserved g c =
+    let all : c.loop-c.c ≡ g.row.N = omega (arith, c.loop-c-test.false) in
+    stored-on c.requires.row c.loop-n-test.true c.loop-c-2-test.true c.loop-c-2.invariant (rw all at c.loop-c.invariant) c.put.new.out c.put.ensures
+
+pub loop-n-preserved : goal.loop-n-preserved
+loop-n-preserved g c =
+    let all : c.loop-c.c ≡ g.row.N = omega (arith, c.loop-c-test.false) in
+    let whole : c.loop-c-2.c ≡ g.row.N = omega (arith, c.loop-c-2-test.false) in
+    let next : c.loop-n.n * g.row.N + g.row.N ≡ (c.loop-n.n + 1) * g.row.N = omega (arith, add-mul c.loop-n.n 1 g.row.N, one-mul g.row.N) in
+    (rw (whole, next) at c.loop-c-2.invariant, summed-next (rw all at c.loop-c.invariant))
