@@ -3,9 +3,9 @@
 
 mod shares;
 
-ghost use Rattle.std.specs.Prelude.{◌≡◌, true};
+ghost use Rattle.std.specs.Prelude.{◌≡◌, ◌+◌, ◌≤◌, true, length};
 ghost use Rattle.laws.specs.Tabled.{Tabled};
-ghost use Rattle.pixels.specs.Render.{flipped, high_byte};
+ghost use Rattle.pixels.specs.Render.{flipped, high_byte, OneOrTwo, WordAt};
 ghost use Rattle.pixels.specs.Finish.{Inverted, share_of, StraightBy, ColourBy, PixelGiven, WholePixels, PixelStraightened, PixelsStraightened, Straightened};
 
 use crate::shares::SHARES;
@@ -23,6 +23,19 @@ pub fn high(le: bool) -> usize
     ensures { result ≡ high_byte le }
 {
     if le { 1 } else { 0 }
+}
+
+// The word of one or two bytes at a place, as the picture has it of a stored one or the other way round: turned where that is little-endian.
+pub fn word<const BYTES: usize>(s: &[u8], at: usize, le: bool) -> [u8; BYTES]
+    requires { OneOrTwo BYTES × (at + BYTES ≤ length s.now) }
+    ensures { WordAt s.now at BYTES le result }
+{
+    let mut word = [0; BYTES];
+    for b in 0..BYTES {
+        let from = if le { BYTES - 1 - b } else { b };
+        word[b] = s[at + from];
+    }
+    word
 }
 
 // The share of an alpha, worked out: 33423360 / a, rounded up.
