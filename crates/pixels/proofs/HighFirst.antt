@@ -1,6 +1,6 @@
 -- Words of one or two bytes in the other byte order: the bytes of each change places, as the layout turns them. Assumes nothing.
 use Prim.Native.Nat.{ℕ, ◌+◌, ◌-◌, ◌*◌, ◌%◌, ◌≤◌, ◌<◌}
-use mathlib.Core.Path.{◌≡◌, refl, ap, ◌∙◌}
+use mathlib.Core.Path.{◌≡◌, refl, sym, ap, ◌∙◌}
 use mathlib.Core.Bool.{Bool, true, false, ◌&&◌}
 use mathlib.Core.List.{List}
 use mathlib.Core.Logic.{◌⊎◌, inl, inr}
@@ -30,6 +30,10 @@ one_or_two l s narrow = by (record_accepted l s).bytes
 pub some_bytes : {bytes : ℕ} → OneOrTwo bytes → 0 < bytes
 some_bytes (inl e) = omega arith
 some_bytes (inr e) = omega arith
+
+pub few_bytes : {bytes : ℕ} → OneOrTwo bytes → bytes ≤ 2
+few_bytes (inl e) = omega arith
+few_bytes (inr e) = omega arith
 
 pub one_byte : {bytes : ℕ} → OneOrTwo bytes → (bytes ≡ 2 → ⊥) → bytes ≡ 1
 one_byte (inl e) n = e
@@ -91,3 +95,13 @@ stored-high_first raw b {bytes} width le out_le k = by (xor le out_le) refl
     by : (d : Bool) → xor le out_le ≡ d → stored_at bytes out_le (word_of bytes le raw) k ≡ get_or raw (high_first bytes d k) 0
     by true e = other_order raw b bytes (some width) k le out_le e ∙ ap (λ (i : ℕ). get_or raw i 0) (high_first-mirror width k)
     by false e = same_order raw b bytes (some width) k le out_le e ∙ ap (λ (i : ℕ). get_or raw i 0) (high_first-same bytes k)
+
+-- the bytes of one word, as they are taken
+pub high_first-turned : {bytes : ℕ} → OneOrTwo bytes → (b : ℕ) → b < bytes → high_first bytes true b ≡ bytes - 1 - b
+unfolding high_first
+high_first-turned (inl e) b h = rw e (omega arith)
+high_first-turned (inr e) b h = rw e (omega arith)
+
+pub word_from : {bytes : ℕ} (le : Bool) {b from : ℕ} → OneOrTwo bytes → b < bytes → ((le ≡ true) × (from ≡ bytes - 1 - b)) ⊎ ((le ≡ false) × (from ≡ b)) → from ≡ high_first bytes le b
+word_from {bytes} le {b} width h (inl w) = rw w.0 (w.1 ∙ sym (high_first-turned width b h))
+word_from {bytes} le {b} width h (inr w) = rw w.0 (w.1 ∙ high_first-same bytes b)

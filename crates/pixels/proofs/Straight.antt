@@ -1,9 +1,8 @@
 -- The alpha rule by shares: a colour times its alpha's share, held at 255 and to nearest, is the rule's colour. Assumes nothing.
 use Prim.Native.Nat.{ℕ, ◌+◌, ◌-◌, ◌*◌, ◌/◌, ◌≤◌, ◌<◌, min}
-use mathlib.Core.Path.{◌≡◌, sym, ap, ◌∙◌}
-use mathlib.Core.Logic.{◌⊎◌, ⊎_elim}
+use mathlib.Core.Path.{◌≡◌, ap, ◌∙◌}
 use native.Mathlib.Decide.{dec_lt}
-use native.Mathlib.Nat.{mul-zero, mul-add, mul-div-le, lt-mul-div-succ, min-eq_left, min-eq_right}
+use native.Mathlib.Nat.{mul-zero, mul-add, mul-div-le, lt-mul-div-succ}
 use native.Mathlib.Omega.{arith}
 use borrow.Author.Tests.{eq-eqb, ne_eqb}
 use lib.Dec.{eqb}
@@ -13,14 +12,8 @@ use Rattle.pixels.specs.Finish.{share_of}
 use Rattle.pixels.proofs.Nearest.{share_nearest}
 
 -- 255 × u / a in parts of 2^17, held at 255
-abbrev pub Held : ℕ → ℕ → Type 0
-Held full held = ((full < 33423360) × (held ≡ full)) ⊎ ((33423360 ≤ full) × (held ≡ 33423360))
-
-held-nearest : (full held : ℕ) → Held full held → (held + 65536) / 131072 ≡ min 255 (nearest full 131072)
-held-nearest full held =
-    ⊎_elim
-    (λ w. let whole : nearest full 131072 ≡ (held + 65536) / 131072 = omega arith in rw whole (sym (min-eq_right (omega arith))))
-    (λ w. let most : 255 ≤ nearest full 131072 = omega arith in rw w.1 (sym (min-eq_left most)))
+held-nearest : (full held : ℕ) → held ≡ min full 33423360 → (held + 65536) / 131072 ≡ min 255 (nearest full 131072)
+held-nearest full held is = omega arith
 
 pub share_none : (a : ℕ) → a ≡ 0 → share_of a ≡ 0
 unfolding share_of
@@ -39,7 +32,7 @@ share_times a some =
     let next : a * (q + 1) ≡ a * q + a * 1 = mul-add a q 1 in
     rw (ne_eqb a 0 (omega arith)) (omega (arith, lt-mul-div-succ n some, next), omega (arith, mul-div-le n a))
 
-pub straight_held : (u a share held : ℕ) → u < 256 → a < 256 → share ≡ share_of a → Held (u * share) held → (held + 65536) / 131072 ≡ straightened u a
+pub straight_held : (u a share held : ℕ) → u < 256 → a < 256 → share ≡ share_of a → held ≡ min (u * share) 33423360 → (held + 65536) / 131072 ≡ straightened u a
 unfolding straightened
 straight_held u a share held byte alpha e is = held-nearest (u * share) held is ∙ by (dec_lt 0 a)
   where

@@ -5,7 +5,7 @@ use Rattle.answer.specs.Outcome.{Fault, unless, pick, unsupported, truncated, ou
 use Rattle.answer.specs.Table.{table}
 use Rattle.words.specs.Word.{word_at}
 use Rattle.layout.specs.declared.RasterLayout.{RasterLayout}
-use Rattle.layout.specs.Layout.{record_faults, source_index}
+use Rattle.layout.specs.Layout.{record_faults, high_first, source_index}
 
 -- bytes of a row of the picture, and of a row of a plane
 abbrev pub row_bytes : RasterLayout → ℕ
@@ -37,6 +37,10 @@ high_byte le = pick le 1 0
 -- the widths that are rendered and written
 abbrev pub OneOrTwo : ℕ → Type 0
 OneOrTwo bytes = (bytes ≡ 1) ⊎ (bytes ≡ 2)
+
+-- the bytes of a word at a place, turned where the stored one is little-endian
+abbrev pub WordAt : List ℕ → ℕ → ℕ → Bool → List ℕ → Type 0
+WordAt s at bytes le word = word ≡ table bytes (λ b. get_or s (at + high_first bytes le b) 0)
 
 -- the byte of the planes that byte k of the picture comes from
 abbrev pub source : RasterLayout → List ℕ → ℕ → ℕ

@@ -3,9 +3,9 @@
 
 mod shares;
 
-ghost use Rattle.std.specs.Prelude.{◌≡◌, true};
+ghost use Rattle.std.specs.Prelude.{◌≡◌, ◌+◌, ◌≤◌, true, length};
 ghost use Rattle.laws.specs.Tabled.{Tabled};
-ghost use Rattle.pixels.specs.Render.{flipped, high_byte};
+ghost use Rattle.pixels.specs.Render.{flipped, high_byte, OneOrTwo, WordAt};
 ghost use Rattle.pixels.specs.Finish.{Inverted, share_of, StraightBy, ColourBy, PixelGiven, WholePixels, PixelStraightened, PixelsStraightened, Straightened};
 
 use crate::shares::SHARES;
@@ -25,6 +25,19 @@ pub fn high(le: bool) -> usize
     if le { 1 } else { 0 }
 }
 
+// The word of one or two bytes at a place, as the picture has it of a stored one or the other way round: turned where that is little-endian.
+pub fn word<const BYTES: usize>(s: &[u8], at: usize, le: bool) -> [u8; BYTES]
+    requires { OneOrTwo BYTES × (at + BYTES ≤ length s.now) }
+    ensures { WordAt s.now at BYTES le result }
+{
+    let mut word = [0; BYTES];
+    for b in 0..BYTES {
+        let from = if le { BYTES - 1 - b } else { b };
+        word[b] = s[at + from];
+    }
+    word
+}
+
 // The share of an alpha, worked out: 33423360 / a, rounded up.
 fn share(a: u8) -> u32
     ensures { result ≡ share_of a }
@@ -42,7 +55,7 @@ fn straighten(u: u8, share: u32) -> u8
     ensures { StraightBy share u result }
 {
     let full = (u as u64) * (share as u64);
-    let held = if full < 33423360 { full } else { 33423360 };
+    let held = full.min(33423360);
     ((held + 65536) / 131072) as u8
 }
 
@@ -58,10 +71,8 @@ fn colour(v: u8, share: u32, multiplied: bool, white: bool) -> u8
 pub fn invert(s: &mut [u8])
     ensures { Inverted s.old s.new }
 {
-    let mut k: usize = 0;
-    while k < s.len() {
-        s[k] = flip(true, s[k]);
-        k += 1;
+    for v in s.iter_mut() {
+        *v = flip(true, *v);
     }
 }
 
@@ -69,10 +80,8 @@ fn straighten_pixel(s: &mut [u8], at: usize, last: usize, multiplied: bool, whit
     requires { PixelGiven s.old at last multiplied share }
     ensures { PixelStraightened s.old at last multiplied white s.new }
 {
-    let mut c: usize = 0;
-    while c < last {
+    for c in 0..last {
         s[at + c] = colour(s[at + c], share, multiplied, white);
-        c += 1;
     }
 }
 
@@ -94,15 +103,15 @@ fn straighten_pixels(s: &mut [u8], channels: usize, multiplied: bool, white: boo
     ensures { PixelsStraightened s.old channels multiplied white s.new }
 {
     let last = channels - 1;
-    let mut at: usize = 0;
-    while at < s.len() {
+    for p in 0..s.len() / channels {
+        let at = p * channels;
         let part = share(s[at + last]);
         straighten_known(s, at, last, multiplied, white, part);
-        at += channels;
     }
 }
 
-// Every pixel that was multiplied, by a table of the shares.
+// Every pixel that was multiplied, by a table of the shares. By hand: a `for` over the pixels takes 53 µs for 64 KiB
+// of two channels where this takes 39, and 71 of three where this takes 63.
 fn divide_pixels(s: &mut [u8], channels: usize, white: bool, shares: &[u32; 256])
     requires { WholePixels s.old channels × Tabled 256 share_of shares.now }
     ensures { PixelsStraightened s.old channels true white s.new }

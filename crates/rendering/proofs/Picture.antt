@@ -22,14 +22,13 @@ use Rattle.slots.proofs.Painting.{colours-few}
 use Rattle.laws.proofs.Says.{inside_if}
 use Rattle.rendering.specs.Rows.{PlainRowAsked, PlainRendered, RenderServed, RowAsked, RowRendered, RowsRendered}
 
-pub record RenderedRows (l : RasterLayout) (file raw old : List ℕ) (y at : ℕ) (out : List ℕ) : Type 0 where
+pub record RenderedRows (l : RasterLayout) (file raw old : List ℕ) (y : ℕ) (out : List ℕ) : Type 0 where
   pub inside : y ≤ l.fields.h
-  pub at-is : at ≡ y * row_bytes l
   pub same : length out ≡ length old
-  pub so_far : out ≡ filled at (converted l file raw) old
+  pub so_far : out ≡ filled (y * row_bytes l) (converted l file raw) old
 
-pub rendered_none : (l : RasterLayout) (file raw old : List ℕ) → RenderedRows l file raw old 0 0 old
-rendered_none l file raw old = record { inside = omega arith; at-is = sym (zero-mul (row_bytes l)); same = refl; so_far = refl }
+pub rendered_none : (l : RasterLayout) (file raw old : List ℕ) → RenderedRows l file raw old 0 old
+rendered_none l file raw old = record { inside = omega arith; same = refl; so_far = rw (zero-mul (row_bytes l)) }
 
 module _ {l : RasterLayout} {file raw old : List ℕ} (served : RenderServed l file raw old) where
   -- no product wraps
@@ -40,35 +39,32 @@ module _ {l : RasterLayout} {file raw old : List ℕ} (served : RenderServed l f
       let one : 1 * row_bytes l ≤ l.fields.h * row_bytes l = mul-le-mul_right (row_bytes l) shown.high in
       (omega (arith, one-mul (l.fields.ch * l.fields.bytes)), omega (arith, one-mul (row_bytes l), output_rows l served.sound, (record_agreed l served.sound).output_length_lem, shown.size))
 
-  module _ {y at : ℕ} {out : List ℕ} (is : RenderedRows l file raw old y at out) where
+  module _ {y : ℕ} {out : List ℕ} (is : RenderedRows l file raw old y out) where
     module _ (more : y < l.fields.h) where
-      pub rendered_room : at + row_bytes l ≤ l.output_len
+      pub rendered_room : y * row_bytes l + row_bytes l ≤ l.output_len
       rendered_room =
           let all : (y + 1) * row_bytes l ≤ l.fields.h * row_bytes l = mul-le-mul_right (row_bytes l) (omega arith) in
-          omega (arith, is.at-is, output_rows l served.sound, add-mul y 1 (row_bytes l), one-mul (row_bytes l))
+          omega (arith, output_rows l served.sound, add-mul y 1 (row_bytes l), one-mul (row_bytes l))
 
-      wide : length (part at (at + row_bytes l) out) ≡ at + row_bytes l - at
-      wide = length_part at (at + row_bytes l) out (omega arith) (omega (arith, rendered_room, is.same, served.room))
+      wide : length (part (y * row_bytes l) (y * row_bytes l + row_bytes l) out) ≡ y * row_bytes l + row_bytes l - y * row_bytes l
+      wide = length_part (y * row_bytes l) (y * row_bytes l + row_bytes l) out (omega arith) (omega (arith, rendered_room, is.same, served.room))
 
-      pub row_of : RowAsked l file raw y (part at (at + row_bytes l) out)
+      pub row_of : RowAsked l file raw y (part (y * row_bytes l) (y * row_bytes l + row_bytes l) out)
       row_of = record { sound = served.sound; bytes = served.bytes; map = served.map; planes = served.planes; row = more; room = wide ∙ omega arith }
 
-      pub rendered_next : (new : List ℕ) → RowRendered l file raw y (part at (at + row_bytes l) out) new → RenderedRows l file raw old (y + 1) (at + row_bytes l) (take at out ++ (new ++ drop (at + row_bytes l - at) (drop at out)))
+      pub rendered_next : (new : List ℕ) → RowRendered l file raw y (part (y * row_bytes l) (y * row_bytes l + row_bytes l) out) new → RenderedRows l file raw old (y + 1) (take (y * row_bytes l) out ++ (new ++ drop (y * row_bytes l + row_bytes l - y * row_bytes l) (drop (y * row_bytes l) out)))
       rendered_next new p =
+          let at = y * row_bytes l in
           let f = converted l file raw in
-          let all : new ≡ table (at + row_bytes l - at) (λ k. f (at + k)) = p ∙ ap (λ (n : ℕ). table n (λ j. f (y * row_bytes l + j))) wide ∙ ap (λ (n : ℕ). table (at + row_bytes l - at) (λ j. f (n + j))) (sym is.at-is) in
-          let now = part_filled f at (at + row_bytes l) old out new (omega arith) is.so_far all in
-          record {
-            inside = omega arith;
-            at-is = omega (arith, is.at-is, add-mul y 1 (row_bytes l), one-mul (row_bytes l));
-            same = ap length now ∙ length-filled (at + row_bytes l) f old (omega (arith, rendered_room, served.room));
-            so_far = now;
-          }
+          let all : new ≡ table (at + row_bytes l - at) (λ k. f (at + k)) = p ∙ ap (λ (n : ℕ). table n (λ j. f (at + j))) wide in
+          let next : at + row_bytes l ≡ (y + 1) * row_bytes l = omega (arith, add-mul y 1 (row_bytes l), one-mul (row_bytes l)) in
+          let now = part_filled f at (at + row_bytes l) old out new (omega arith) is.so_far all ∙ ap (λ (n : ℕ). filled n f old) next in
+          record { inside = omega arith; same = ap length now ∙ length-filled ((y + 1) * row_bytes l) f old (omega (arith, rendered_room, served.room)); so_far = now }
 
     pub rendered_all : l.fields.h ≤ y → RowsRendered l file raw old out
     rendered_all end =
         let last : y ≡ l.fields.h = omega (arith, is.inside) in
-        is.so_far ∙ ap (λ (n : ℕ). filled n (converted l file raw) old) (is.at-is ∙ ap (λ (n : ℕ). n * row_bytes l) last ∙ sym (output_rows l served.sound))
+        is.so_far ∙ ap (λ (n : ℕ). filled n (converted l file raw) old) (ap (λ (n : ℕ). n * row_bytes l) last ∙ sym (output_rows l served.sound))
 
 -- a row whose bytes are bytes of the planes
 pub plain_row_of : {l : RasterLayout} {file raw : List ℕ} {y : ℕ} {out : List ℕ} → RowAsked l file raw y out → packed l ≡ false → PlainRowAsked l raw y out

@@ -89,6 +89,7 @@ module _ {l : RasterLayout} {raw : List ℕ} {y : ℕ} {out : List ℕ} (row : P
         let both = (plane_is l row.sound row.plain e).1 in
         record {
           some = (record_accepted l row.sound).some;
+          few = (record_accepted l row.sound).few;
           width = narrow;
           pixels = rw row.room (mul-mod_left l.fields.w (l.fields.ch * l.fields.bytes));
           inside = rw wide (omega (arith, plane_row_end, row_apart));

@@ -72,6 +72,7 @@ planes_at raw plane_length from channels bytes le j = get_or raw (plane_place pl
 
 pub record PlanesFit (raw : List ℕ) (plane_length from channels bytes : ℕ) (out : List ℕ) : Type 0 where
   pub some : 0 < channels
+  pub few : channels ≤ 4
   pub width : OneOrTwo bytes
   pub pixels : length out % (channels * bytes) ≡ 0
   pub inside : from + length out / (channels * bytes) * bytes ≤ plane_length

@@ -4,8 +4,8 @@ ghost use Rattle.rendering.specs.Rows.{PlainRowAsked, Gathered, PixelFits, Pixel
 
 use layout::RasterLayout;
 
-// A pixel of one-byte channels, each from its plane.
-fn pixel1(
+// A pixel of channels of this many bytes, each from its plane.
+fn pixel<const BYTES: usize>(
     raw: &[u8],
     plane_len: usize,
     place: usize,
@@ -14,127 +14,61 @@ fn pixel1(
     at: usize,
     out: &mut [u8],
 )
-    requires { PixelFits raw.now plane_len place channels 1 at out.old }
-    ensures { PixelGathered raw.now plane_len place channels 1 le at out.old out.new }
+    requires { PixelFits raw.now plane_len place channels BYTES at out.old × OneOrTwo BYTES }
+    ensures { PixelGathered raw.now plane_len place channels BYTES le at out.old out.new }
 {
-    let mut from = place;
-    let mut c: usize = 0;
-    while c < channels {
-        out[at + c] = raw[from];
-        from += plane_len;
-        c += 1;
-    }
-}
-
-// A pixel of two-byte channels, the more significant byte first.
-fn pixel2(
-    raw: &[u8],
-    plane_len: usize,
-    place: usize,
-    channels: usize,
-    le: bool,
-    at: usize,
-    out: &mut [u8],
-)
-    requires { PixelFits raw.now plane_len place channels 2 at out.old }
-    ensures { PixelGathered raw.now plane_len place channels 2 le at out.old out.new }
-{
-    let high = pixels::high(le);
-    let mut from = place;
-    let mut to = at;
-    let mut c: usize = 0;
-    while c < channels {
-        let a = raw[from + high];
-        let b = raw[from + (1 - high)];
-        out[to] = a;
-        out[to + 1] = b;
-        from += plane_len;
-        to += 2;
-        c += 1;
-    }
-}
-
-fn pixel(
-    raw: &[u8],
-    plane_len: usize,
-    place: usize,
-    channels: usize,
-    bytes: usize,
-    le: bool,
-    at: usize,
-    out: &mut [u8],
-)
-    requires { PixelFits raw.now plane_len place channels bytes at out.old × OneOrTwo bytes }
-    ensures { PixelGathered raw.now plane_len place channels bytes le at out.old out.new }
-{
-    if bytes == 2 {
-        pixel2(raw, plane_len, place, channels, le, at, out);
-    } else {
-        pixel1(raw, plane_len, place, channels, le, at, out);
+    for c in 0..channels {
+        let word = pixels::word::<BYTES>(raw, place + c * plane_len, le);
+        let to = at + c * BYTES;
+        let end = to + BYTES;
+        out[to..end].copy_from_slice(&word);
     }
 }
 
 // The same. Each arm knows its number of channels, so the compiler writes their loops out.
-fn known_pixel(
+fn known_pixel<const BYTES: usize>(
     raw: &[u8],
     plane_len: usize,
     place: usize,
     channels: usize,
-    bytes: usize,
     le: bool,
     at: usize,
     out: &mut [u8],
 )
-    requires { PixelFits raw.now plane_len place channels bytes at out.old × OneOrTwo bytes }
-    ensures { PixelGathered raw.now plane_len place channels bytes le at out.old out.new }
+    requires { PixelFits raw.now plane_len place channels BYTES at out.old × OneOrTwo BYTES }
+    ensures { PixelGathered raw.now plane_len place channels BYTES le at out.old out.new }
 {
     match channels {
-        2 => pixel(raw, plane_len, place, channels, bytes, le, at, out),
-        3 => pixel(raw, plane_len, place, channels, bytes, le, at, out),
-        4 => pixel(raw, plane_len, place, channels, bytes, le, at, out),
-        _ => pixel(raw, plane_len, place, channels, bytes, le, at, out),
+        2 => pixel::<BYTES>(raw, plane_len, place, channels, le, at, out),
+        3 => pixel::<BYTES>(raw, plane_len, place, channels, le, at, out),
+        4 => pixel::<BYTES>(raw, plane_len, place, channels, le, at, out),
+        _ => pixel::<BYTES>(raw, plane_len, place, channels, le, at, out),
     }
 }
 
 // A row of pixels whose channels stand in planes of their own.
-fn planes(
+fn planes<const BYTES: usize>(
     raw: &[u8],
     plane_len: usize,
     from: usize,
     channels: usize,
-    bytes: usize,
     le: bool,
     out: &mut [u8],
 )
-    requires { PlanesFit raw.now plane_len from channels bytes out.old }
-    ensures { PlanesInto raw.now plane_len from channels bytes le out.old out.new }
+    requires { PlanesFit raw.now plane_len from channels BYTES out.old }
+    ensures { PlanesInto raw.now plane_len from channels BYTES le out.old out.new }
 {
-    let mut place = from;
-    let mut at: usize = 0;
-    while at < out.len() {
-        known_pixel(raw, plane_len, place, channels, bytes, le, at, out);
-        place += bytes;
-        at += channels * bytes;
-    }
-}
-
-// The same, with a width of one byte said outright: a loop of its own.
-fn known_planes(
-    raw: &[u8],
-    plane_len: usize,
-    from: usize,
-    channels: usize,
-    bytes: usize,
-    le: bool,
-    out: &mut [u8],
-)
-    requires { PlanesFit raw.now plane_len from channels bytes out.old }
-    ensures { PlanesInto raw.now plane_len from channels bytes le out.old out.new }
-{
-    if bytes == 1 {
-        planes(raw, plane_len, from, channels, 1, le, out);
-    } else {
-        planes(raw, plane_len, from, channels, bytes, le, out);
+    let stride = channels * BYTES;
+    for p in 0..out.len() / stride {
+        known_pixel::<BYTES>(
+            raw,
+            plane_len,
+            from + p * BYTES,
+            channels,
+            le,
+            p * stride,
+            out,
+        );
     }
 }
 
@@ -143,18 +77,12 @@ pub(crate) fn gather(l: RasterLayout, raw: &[u8], y: usize, out: &mut [u8])
     ensures { Gathered l raw.now y out.old out.new }
 {
     let from = y * (l.encoded_width * l.plane_channels);
-    if l.fields.separate {
-        known_planes(
-            raw,
-            l.plane_len,
-            from,
-            l.fields.ch,
-            l.fields.bytes,
-            l.fields.le,
-            out,
-        );
-    } else {
+    if !l.fields.separate {
         let end = from + out.len();
-        samples::reorder(&raw[from..end], l.fields.bytes, l.fields.le, false, out);
+        let _ = samples::reorder(&raw[from..end], l.fields.bytes, l.fields.le, false, out);
+    } else if l.fields.bytes == 2 {
+        planes::<2>(raw, l.plane_len, from, l.fields.ch, l.fields.le, out);
+    } else {
+        planes::<1>(raw, l.plane_len, from, l.fields.ch, l.fields.le, out);
     }
 }

@@ -1,7 +1,7 @@
 // Rendering: the picture that the decoded planes of a layout hold, row by row.
 #![tactic(auto)]
 
-use answer::{Refusal, fault, first_of};
+use answer::{Refusal, fault};
 use layout::RasterLayout;
 
 mod gather;
@@ -21,9 +21,9 @@ fn packed_row(l: RasterLayout, file: &[u8], raw: &[u8], y: usize, out: &mut [u8]
     let end = from + l.encoded_width;
     let row = &raw[from..end];
     if l.fields.palette {
-        slots::palette_row(file, l.fields.map, l.fields.slots, l.fields.le, row, out);
+        let _ = slots::palette_row(file, l.fields.map, l.fields.slots, l.fields.le, row, out);
     } else {
-        slots::bilevel_row(row, l.fields.white, out);
+        let _ = slots::bilevel_row(row, l.fields.white, out);
     }
 }
 
@@ -31,9 +31,7 @@ fn render_row(l: RasterLayout, file: &[u8], raw: &[u8], y: usize, out: &mut [u8]
     requires { RowAsked l file.now raw.now y out.old }
     ensures { RowRendered l file.now raw.now y out.old out.new }
 {
-    if l.fields.palette {
-        packed_row(l, file, raw, y, out);
-    } else if l.fields.slots == 8 {
+    if l.fields.palette || l.fields.slots == 8 {
         packed_row(l, file, raw, y, out);
     } else {
         plain::plain_row(l, raw, y, out);
@@ -45,13 +43,10 @@ fn render_rows(l: RasterLayout, file: &[u8], raw: &[u8], out: &mut [u8])
     ensures { RowsRendered l file.now raw.now out.old out.new }
 {
     let row_bytes = l.fields.w * (l.fields.ch * l.fields.bytes);
-    let mut at: usize = 0;
-    let mut y: usize = 0;
-    while y < l.fields.h {
+    for y in 0..l.fields.h {
+        let at = y * row_bytes;
         let end = at + row_bytes;
         render_row(l, file, raw, y, &mut out[at..end]);
-        at = end;
-        y += 1;
     }
 }
 
@@ -60,13 +55,7 @@ fn map_beyond(l: RasterLayout, length: usize) -> bool
     requires { Colours l }
     ensures { result ≡ (l.fields.palette && ltb length (l.fields.map + 6 * l.colors)) }
 {
-    if !l.fields.palette {
-        return false;
-    }
-    if length < l.fields.map {
-        return true;
-    }
-    length - l.fields.map < 6 * l.colors
+    l.fields.palette && (length < l.fields.map || length - l.fields.map < 6 * l.colors)
 }
 
 // What is refused of a record without a fault, in rule 6.7's order.
@@ -79,11 +68,10 @@ fn check_draw(
     requires { Colours l }
     ensures { Step (draw_faults l file_len raw_len out_len) result }
 {
-    let wide = fault(l.fields.bytes == 8, Refusal::Unsupported);
-    let map = fault(map_beyond(l, file_len), Refusal::Truncated);
-    let planes = fault(raw_len < l.scratch_len, Refusal::Truncated);
-    let room = fault(out_len < l.output_len, Refusal::OutputTooSmall);
-    first_of(wide, first_of(map, first_of(planes, room)))
+    fault(l.fields.bytes == 8, Refusal::Unsupported)?;
+    fault(map_beyond(l, file_len), Refusal::Truncated)?;
+    fault(raw_len < l.scratch_len, Refusal::Truncated)?;
+    fault(out_len < l.output_len, Refusal::OutputTooSmall)
 }
 
 // What is refused at all.

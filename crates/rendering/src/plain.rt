@@ -10,12 +10,12 @@ fn finish(l: RasterLayout, out: &mut [u8])
     ensures { Finished l out.old out.new }
 {
     if l.fields.alpha == 1 {
-        pixels::straighten_row(out, l.fields.ch, true, l.fields.white);
+        let _ = pixels::straighten_row(out, l.fields.ch, true, l.fields.white);
     } else if l.fields.white {
         if l.fields.alpha == 0 {
             pixels::invert(out);
         } else {
-            pixels::straighten_row(out, l.fields.ch, false, true);
+            let _ = pixels::straighten_row(out, l.fields.ch, false, true);
         }
     }
 }

@@ -1,28 +1,90 @@
--- The bits of a row's columns, and the byte of eight of them. Assumes nothing.
-use Prim.Native.Nat.{ℕ, ◌+◌, ◌≤◌, ◌<◌}
-use mathlib.Core.Path.{◌≡◌, ◌∙◌}
+-- The bits of up to eight columns as one byte. Assumes nothing.
+use Prim.Native.Nat.{ℕ, zero, suc, ◌+◌, ◌-◌, ◌*◌, ◌^◌, ◌≤◌, ◌<◌}
+use mathlib.Core.Path.{◌≡◌, sym, ap, ◌∙◌}
 use mathlib.Core.Bool.{Bool}
-use mathlib.Core.List.{List, [], ◌∷◌}
-use native.Mathlib.Nat.{add-zero}
+use mathlib.Core.List.{List}
+use mathlib.Core.Logic.{◌⊎◌, ⊎_elim}
+use native.Mathlib.Decide.{dec_lt}
+use native.Mathlib.Nat.{zero-add, mul-one, pow-zero, pow-succ', mul_left_comm, suc-add, pow-le-pow_right}
+use native.Mathlib.Numerals.{add-one}
 use native.Mathlib.Omega.{arith}
 use borrow.Author.Tests.{lt-ltb, le-ltb}
 use lib.ListN.{length, get_or}
+use lib.Dec.{eqb, ltb}
+use Rattle.answer.specs.Outcome.{xor}
+use Rattle.laws.proofs.Picks.{pick_below}
+use Rattle.answer.proofs.Filling.{part, length_part, part_at}
 use Rattle.words.specs.Digits.{value}
+use Rattle.words.proofs.Digits.{value_same, value_below}
 use Rattle.pixels.specs.Planes.{bilevel_bit}
 use Rattle.slots.specs.Rows.{bit_at, byte_from}
 
-pub bit_within : (white : Bool) (picture : List ℕ) (k : ℕ) → k < length picture → bilevel_bit white (get_or picture k 0) ≡ bit_at white picture k
+pub bit_within : (white : Bool) (picture : List ℕ) (k : ℕ) → k < length picture → bit_at white picture k ≡ bilevel_bit white (get_or picture k 0)
 bit_within white picture k h = rw (lt-ltb k (length picture) h)
 
-pub bit_past : (white : Bool) (picture : List ℕ) (k : ℕ) → length picture ≤ k → 0 ≡ bit_at white picture k
+pub bit_past : (white : Bool) (picture : List ℕ) (k : ℕ) → length picture ≤ k → bit_at white picture k ≡ 0
 bit_past white picture k h = rw (le-ltb k (length picture) h)
 
--- eight bits, the highest first
-pub byte_joined : (white : Bool) (picture : List ℕ) (k a b c d e f g h r : ℕ) → a ≡ bit_at white picture k → b ≡ bit_at white picture (k + 1) → c ≡ bit_at white picture (k + 2) → d ≡ bit_at white picture (k + 3) → e ≡ bit_at white picture (k + 4) → f ≡ bit_at white picture (k + 5) → g ≡ bit_at white picture (k + 6) → h ≡ bit_at white picture (k + 7) → r ≡ value 2 8 (λ p. get_or (h ∷ g ∷ f ∷ e ∷ d ∷ c ∷ b ∷ a ∷ []) p 0) → r ≡ byte_from white picture k
-byte_joined white picture k a b c d e f g h r is0 is1 is2 is3 is4 is5 is6 is7 sum = sum ∙ rw (add-zero k, is0, is1, is2, is3, is4, is5, is6, is7)
+-- the first n columns are the digits of a number, the last the lowest
+pub record Packed (white : Bool) (columns : List ℕ) (n byte : ℕ) : Type 0 where
+  pub so_far : byte ≡ value 2 n (λ p. bilevel_bit white (get_or columns (n - 1 - p) 0))
 
--- and of columns that are all within the row
-pub full_joined : (white : Bool) (picture : List ℕ) (k a b c d e f g h r : ℕ) → k + 8 ≤ length picture → a ≡ bilevel_bit white (get_or picture k 0) → b ≡ bilevel_bit white (get_or picture (k + 1) 0) → c ≡ bilevel_bit white (get_or picture (k + 2) 0) → d ≡ bilevel_bit white (get_or picture (k + 3) 0) → e ≡ bilevel_bit white (get_or picture (k + 4) 0) → f ≡ bilevel_bit white (get_or picture (k + 5) 0) → g ≡ bilevel_bit white (get_or picture (k + 6) 0) → h ≡ bilevel_bit white (get_or picture (k + 7) 0) → r ≡ value 2 8 (λ p. get_or (h ∷ g ∷ f ∷ e ∷ d ∷ c ∷ b ∷ a ∷ []) p 0) → r ≡ byte_from white picture k
-full_joined white picture k a b c d e f g h r room is0 is1 is2 is3 is4 is5 is6 is7 sum =
-    let within = bit_within white picture in
-    byte_joined white picture k a b c d e f g h r (is0 ∙ within k (omega arith)) (is1 ∙ within (k + 1) (omega arith)) (is2 ∙ within (k + 2) (omega arith)) (is3 ∙ within (k + 3) (omega arith)) (is4 ∙ within (k + 4) (omega arith)) (is5 ∙ within (k + 5) (omega arith)) (is6 ∙ within (k + 6) (omega arith)) (is7 ∙ within (k + 7) (omega arith)) sum
+pub packed_more : {white : Bool} {columns : List ℕ} {n byte bit : ℕ} → Packed white columns n byte → bit ≡ bilevel_bit white (get_or columns n 0) → Packed white columns (n + 1) (2 * byte + bit)
+packed_more {white} {columns} {n} is e = record {
+  so_far =
+      let g : ℕ → ℕ = λ k. bilevel_bit white (get_or columns k 0) in
+      let rest : value 2 n (λ p. g (n - 1 - p)) ≡ value 2 n (λ p. g (n + 1 - 1 - suc p)) = value_same 2 n _ _ (λ p h. ap g (omega arith)) in
+      let first : g (n + 1 - 1 - 0) ≡ g n = ap g (omega arith) in
+      let all : value 2 (n + 1) (λ p. g (n + 1 - 1 - p)) ≡ g (n + 1 - 1 - 0) + 2 * value 2 n (λ p. g (n + 1 - 1 - suc p)) = rw add-one in
+      omega (arith, all, first, rest, is.so_far, e);
+}
+
+-- digits of which the lowest are 0
+shifted : (m n : ℕ) (f : ℕ → ℕ) → ((p : ℕ) → p < m → f p ≡ 0) → value 2 (m + n) f ≡ value 2 n (λ p. f (m + p)) * 2 ^ m
+shifted zero n f none = simp (pow-zero, zero-add, mul-one)
+shifted (suc m) n f none =
+    let rest = shifted m n (λ p. f (suc p)) (λ p h. none (suc p) (omega arith)) in
+    let first = none 0 (omega arith) in
+    let twice : value 2 n (λ p. f (suc (m + p))) * (2 * 2 ^ m) ≡ 2 * (value 2 n (λ p. f (suc (m + p))) * 2 ^ m) = mul_left_comm _ 2 (2 ^ m) in
+    simp (suc-add, pow-succ') (omega arith)
+
+-- each digit is a bit, so seven of them are below 128
+bit_small : (white : Bool) (v : ℕ) → bilevel_bit white v < 2
+bit_small white v = pick_below (xor (eqb v 0) white) {x = 0} {y = 1} {n = 2} (omega arith) (omega arith)
+
+pub packed_small : {white : Bool} {columns : List ℕ} {n byte : ℕ} → n < 8 → Packed white columns n byte → byte < 128
+packed_small {white} {columns} {n} few is =
+    let below = value_below 2 n (λ p. bilevel_bit white (get_or columns (n - 1 - p) 0)) (λ p h. bit_small white _) in
+    let most : 2 ^ n ≤ 2 ^ 7 = pow-le-pow_right {n = 2} (omega arith) {i = n} {j = 7} (omega arith) in omega (arith, is.so_far)
+
+pub byte_below : (white : Bool) (columns : List ℕ) (k : ℕ) → byte_from white columns k < 256
+byte_below white columns k = value_below 2 8 (λ p. bit_at white columns (k + (7 - p))) (λ p h. pick_below (ltb (k + (7 - p)) (length columns)) {y = 0} (bit_small white (get_or columns (k + (7 - p)) 0)) (omega arith))
+
+-- so the number of up to eight columns, put at the top of a byte, is the byte that begins with them
+pub packed_byte : {white : Bool} {columns : List ℕ} {byte : ℕ} → length columns ≤ 8 → Packed white columns (length columns) byte → byte * 2 ^ (8 - length columns) ≡ byte_from white columns 0
+packed_byte {white} {columns} {byte} room is =
+    let n = length columns in
+    let m = 8 - n in
+    let all : m + n ≡ 8 = omega arith in
+    let f : ℕ → ℕ = λ p. bit_at white columns (0 + (7 - p)) in
+    let put : value 2 (m + n) f ≡ value 2 n (λ p. f (m + p)) * 2 ^ m = shifted m n f (λ p h. bit_past white columns (0 + (7 - p)) (omega arith)) in
+    let same : value 2 n (λ p. f (m + p)) ≡ value 2 n (λ p. bilevel_bit white (get_or columns (n - 1 - p) 0)) =
+    value_same 2 n _ _ (λ p h. ap (bit_at white columns) (omega arith) ∙ bit_within white columns (n - 1 - p) (omega arith)) in
+    let whole : value 2 (m + n) f ≡ value 2 8 f = ap (λ (k : ℕ). value 2 k f) all in
+    ap (λ (k : ℕ). k * 2 ^ m) (is.so_far ∙ sym same) ∙ sym put ∙ whole
+
+-- columns of a row by themselves: eight, or its last
+pub part_byte : (white : Bool) (picture : List ℕ) (a e : ℕ) → a ≤ e → e ≤ length picture → (e ≡ a + 8) ⊎ (e ≡ length picture) → byte_from white (part a e picture) 0 ≡ byte_from white picture a
+part_byte white picture a e h room end = value_same 2 8 _ _ each
+  where
+    each : (p : ℕ) → p < 8 → bit_at white (part a e picture) (0 + (7 - p)) ≡ bit_at white picture (a + (7 - p))
+    each p l = by (dec_lt (a + (7 - p)) e)
+      where
+        by : Dec (a + (7 - p) < e) → bit_at white (part a e picture) (0 + (7 - p)) ≡ bit_at white picture (a + (7 - p))
+        by (yes inside) =
+            bit_within white (part a e picture) (0 + (7 - p)) (rw (length_part a e picture h room) (omega arith))
+            ∙ ap (bilevel_bit white) (part_at a e picture (0 + (7 - p)) (omega arith) ∙ ap (λ (k : ℕ). get_or picture k 0) (omega arith))
+            ∙ sym (bit_within white picture (a + (7 - p)) (omega arith))
+        by (no past) =
+            bit_past white (part a e picture) (0 + (7 - p)) (rw (length_part a e picture h room) (omega arith))
+            ∙ sym (bit_past white picture (a + (7 - p)) (⊎_elim (λ q. absurd (omega arith)) (λ q. omega arith) end))

@@ -8,24 +8,21 @@ ghost use Rattle.std.specs.Prelude.{◌≡◌, ◌+◌, ◌/◌, ◌≤◌, ltb,
 ghost use Rattle.answer.specs.Outcome.{Step};
 ghost use Rattle.slots.specs.Rows.{eighths as eighthsOf, SpreadInto, BilevelRow, BitsInto, BitRow, palette_faults, PaletteRow};
 
-use answer::{Refusal, fault, first_of};
+use answer::{Refusal, fault};
 
 // Bytes that hold n bits.
 fn eighths(n: usize) -> usize
     ensures { result ≡ eighthsOf n }
 {
-    n / 8 + (n % 8 + 7) / 8
+    n.div_ceil(8)
 }
 
 fn spread_whole(raw: &[u8], white: bool, out: &mut [u8])
     requires { length out.old / 8 ≤ length raw.now }
     ensures { SpreadInto raw.now white out.old out.new }
 {
-    let bytes = out.len() / 8;
-    let mut i: usize = 0;
-    while i < bytes {
-        bits::spread8(pixels::flip(white, raw[i]), out, 8 * i);
-        i += 1;
+    for i in 0..out.len() / 8 {
+        bits::spread(pixels::flip(white, raw[i]), 8, out, 8 * i);
     }
 }
 
@@ -49,11 +46,9 @@ fn whole_bits(picture: &[u8], white: bool, out: &mut [u8])
     requires { length picture.now / 8 ≤ length out.old }
     ensures { BitsInto picture.now white out.old out.new }
 {
-    let bytes = picture.len() / 8;
-    let mut b: usize = 0;
-    while b < bytes {
-        out[b] = bits::full_byte(picture, 8 * b, white);
-        b += 1;
+    for b in 0..picture.len() / 8 {
+        let columns = &picture[8 * b..8 * b + 8];
+        out[b] = bits::byte(columns, white);
     }
 }
 
@@ -68,7 +63,8 @@ pub fn bit_row(picture: &[u8], white: bool, out: &mut [u8]) -> Result<(), Refusa
     }
     whole_bits(picture, white, out);
     if 0 < rest {
-        out[bytes] = bits::last_byte(picture, 8 * bytes, white);
+        let columns = &picture[8 * bytes..];
+        out[bytes] = bits::byte(columns, white);
     }
     Ok(())
 }
@@ -77,10 +73,7 @@ pub fn bit_row(picture: &[u8], white: bool, out: &mut [u8]) -> Result<(), Refusa
 fn past_end(n: usize, place: usize, bytes: usize) -> bool
     ensures { result ≡ ltb n (place + bytes) }
 {
-    if n < place {
-        return true;
-    }
-    n - place < bytes
+    n < place || n - place < bytes
 }
 
 // What a palette row cannot be painted from. The last test divides by the slots, so it waits for the first.
@@ -93,17 +86,11 @@ fn check_palette(
 ) -> Result<(), Refusal>
     ensures { Step (palette_faults file map slots raw out) result }
 {
-    let served = fault(
-        !((slots == 1) | (slots == 2) | (slots == 8)),
-        Refusal::Unsupported,
-    );
-    let whole = fault(out % 3 != 0, Refusal::Invalid);
-    let mapped = fault(
-        past_end(file, map, 6 * paint::colours(slots)),
-        Refusal::Truncated,
-    );
-    first_of(served, first_of(whole, mapped))?;
-    fault(raw < (out / 3 + slots - 1) / slots, Refusal::Truncated)
+    fault(!matches!(slots, 1 | 2 | 8), Refusal::Unsupported)?;
+    fault(out % 3 != 0, Refusal::Invalid)?;
+    let beyond = past_end(file, map, 6 * paint::colours(slots));
+    fault(beyond, Refusal::Truncated)?;
+    fault(raw < (out / 3).div_ceil(slots), Refusal::Truncated)
 }
 
 // A palette row: three bytes for each index, from the map of a file.

@@ -7,13 +7,11 @@ ghost use Rattle.slots.specs.Rows.{colours_of, IndexAt, Painted, PaintFits, Pain
 pub(crate) fn colours(slots: usize) -> usize
     ensures { result ≡ colours_of slots }
 {
-    if slots == 8 {
-        return 2;
+    match slots {
+        8 => 2,
+        2 => 16,
+        _ => 256,
     }
-    if slots == 2 {
-        return 16;
-    }
-    256
 }
 
 // A pixel's red, green and blue, each a third of the map further on.
@@ -28,39 +26,12 @@ fn paint(file: &[u8], place: usize, step: usize, out: &mut [u8], at: usize)
     out[at + 2] = file[blue];
 }
 
-fn index1(raw: &[u8], x: usize) -> usize
-    requires { x < length raw.now }
-    ensures { IndexAt 1 raw.now x result }
-{
-    raw[x] as usize
-}
-
-fn index2(raw: &[u8], x: usize) -> usize
-    requires { x / 2 < length raw.now }
-    ensures { IndexAt 2 raw.now x result }
-{
-    ((raw[x / 2] >> ((1 - x % 2) * 4)) % 16) as usize
-}
-
-fn index8(raw: &[u8], x: usize) -> usize
-    requires { x / 8 < length raw.now }
-    ensures { IndexAt 8 raw.now x result }
-{
-    ((raw[x / 8] >> (7 - x % 8)) % 2) as usize
-}
-
-// The index of a column: a byte, a nibble or a bit.
+// The index of a column: a byte, a nibble or a bit, the first the highest.
 fn index(raw: &[u8], x: usize, slots: usize) -> usize
     requires { (one_two_eight slots ≡ true) × (x / slots < length raw.now) }
     ensures { IndexAt slots raw.now x result }
 {
-    if slots == 1 {
-        index1(raw, x)
-    } else if slots == 2 {
-        index2(raw, x)
-    } else {
-        index8(raw, x)
-    }
+    (raw[x / slots] as usize >> ((slots - 1 - x % slots) * (8 / slots))) % colours(slots)
 }
 
 fn paint_of(file: &[u8], first: usize, slots: usize, raw: &[u8], out: &mut [u8])
@@ -68,11 +39,8 @@ fn paint_of(file: &[u8], first: usize, slots: usize, raw: &[u8], out: &mut [u8])
     ensures { PaintedInto file.now first slots raw.now out.old out.new }
 {
     let step = 2 * colours(slots);
-    let columns = out.len() / 3;
-    let mut x: usize = 0;
-    while x < columns {
+    for x in 0..out.len() / 3 {
         paint(file, first + 2 * index(raw, x, slots), step, out, 3 * x);
-        x += 1;
     }
 }
 

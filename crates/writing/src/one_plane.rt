@@ -13,7 +13,7 @@ fn flip_row(l: RasterLayout, s: &mut [u8])
         if l.fields.alpha == 0 {
             pixels::invert(s);
         } else {
-            pixels::straighten_row(s, l.fields.ch, false, true);
+            let _ = pixels::straighten_row(s, l.fields.ch, false, true);
         }
     }
 }
@@ -23,7 +23,7 @@ fn plain_row(l: RasterLayout, row: &[u8], out: &mut [u8])
     requires { PlainFits l row.now out.old }
     ensures { PlainRowWritten l row.now out.old out.new }
 {
-    samples::reorder(row, l.fields.bytes, false, l.fields.le, out);
+    let _ = samples::reorder(row, l.fields.bytes, false, l.fields.le, out);
     flip_row(l, out);
 }
 
@@ -33,7 +33,7 @@ fn write_row(l: RasterLayout, row: &[u8], out: &mut [u8])
     ensures { RowWritten l row.now out.old out.new }
 {
     if l.fields.slots == 8 {
-        slots::bit_row(row, l.fields.white, out);
+        let _ = slots::bit_row(row, l.fields.white, out);
     } else {
         plain_row(l, row, out);
     }

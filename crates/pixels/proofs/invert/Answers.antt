@@ -4,6 +4,6 @@ use Prim.Native.Nat.{◌-◌}
 use Rattle.laws.proofs.Lists.{changed_next}
 use Rattle.pixels.proofs.invert.Goals as goal
 
-pub loop-k-preserved : goal.loop-k-preserved
-loop-k-preserved c =
-    changed_next (λ b. 255 - b) c.loop-k.invariant (search rules) c.flip.ensures
+pub loop-v-preserved : goal.loop-v-preserved
+loop-v-preserved c =
+    changed_next (λ b. 255 - b) c.loop-v.invariant (search rules) c.flip.ensures

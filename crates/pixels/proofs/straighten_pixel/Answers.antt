@@ -15,8 +15,7 @@ loop-c-preserved c =
     let old = args.s.now in
     let alpha : get_or old (args.at + args.last) 0 < 256 = omega (arith, c.slice_known-1.given (args.at + args.last)) in
     let g : ℕ → ℕ = λ j. straight_colour args.multiplied args.white (get_or old (args.at + j) 0) (get_or old (args.at + args.last) 0) in
-    let unread : get_or c.loop-c.s (args.at + c.loop-c.c) 0 ≡ get_or old (args.at + c.loop-c.c) 0 = ap (λ (l : List ℕ). get_or l (args.at + c.loop-c.c) 0) c.loop-c.invariant.2 ∙ stores_rest old args.at c.loop-c.c g (args.at + c.loop-c.c) (λ h. omega arith) in (
-      omega arith,
+    let unread : get_or c.loop-c.s (args.at + c.loop-c.c) 0 ≡ get_or old (args.at + c.loop-c.c) 0 = ap (λ (l : List ℕ). get_or l (args.at + c.loop-c.c) 0) c.loop-c.invariant.1 ∙ stores_rest old args.at c.loop-c.c g (args.at + c.loop-c.c) (λ h. omega arith) in (
       simp length-set (omega arith),
-      rw (c.colour.ensures _ alpha c.requires.known, unread, c.loop-c.invariant.2, add-one),
+      rw (c.colour.ensures _ alpha c.requires.known, unread, c.loop-c.invariant.1, add-one),
     )

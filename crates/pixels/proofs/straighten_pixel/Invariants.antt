@@ -1,5 +1,5 @@
 -- `pixels::straighten_pixel` meets its contract: the colours before the alpha byte, one store each. Assumes nothing.
-use Prim.Native.Nat.{◌+◌, ◌-◌, ◌≤◌}
+use Prim.Native.Nat.{◌+◌}
 use mathlib.Core.Path.{◌≡◌}
 use lib.ListN.{length, get_or}
 use Rattle.answer.specs.Table.{stores}
@@ -7,7 +7,4 @@ use Rattle.pixels.specs.Render.{straight_colour}
 use Rattle.pixels.proofs.straighten_pixel.Given as goal
 
 abbrev pub invariant-loop-c : goal.invariant-loop-c
-invariant-loop-c l = (l.c ≤ l.last) × (length l.s ≡ length l.initial.s) × (l.s ≡ stores l.initial.s l.at l.c (λ j. straight_colour l.multiplied l.white (get_or l.initial.s (l.at + j) 0) (get_or l.initial.s (l.at + l.last) 0)))
-
-abbrev pub decreases-loop-c : goal.decreases-loop-c
-decreases-loop-c l = l.last - l.c
+invariant-loop-c l = (length l.s ≡ length l.initial.s) × (l.s ≡ stores l.initial.s l.at l.c (λ j. straight_colour l.multiplied l.white (get_or l.initial.s (l.at + j) 0) (get_or l.initial.s (l.at + l.last) 0)))

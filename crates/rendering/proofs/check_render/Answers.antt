@@ -1,6 +1,7 @@
 -- `rendering::check_render` meets its contract: the record's refusal, then the others. Assumes nothing.
 use Rattle.answer.specs.Outcome.{Step}
-use Rattle.answer.proofs.Promised.{step-sound, step-refused, step-on}
+use Rattle.answer.proofs.Promised.{step-sound, step-on}
+use Rattle.answer.proofs.Handed.{step-handed}
 use Rattle.layout.specs.Layout.{record_faults}
 use Rattle.pixels.specs.Render.{draw_faults}
 use Rattle.rendering.proofs.Picture.{record_colours}
@@ -14,13 +15,13 @@ recorded c =
 
 pub check_draw-requires : goal.check_draw-requires
 check_draw-requires c =
-    record_colours c.args.l (step-sound (recorded (goal.at.check_draw-requires c).After-check_record) c.in-Done.is)
+    record_colours c.args.l (step-sound (recorded (goal.at.check_draw-requires c).After-check_record) c.in_ok-check_record.was)
 
-pub returns-in-Refused : goal.returns-in-Refused
-returns-in-Refused c =
+pub returns-in_err-check_record : goal.returns-in_err-check_record
+returns-in_err-check_record c =
     let args = c.args in
-    step-refused (draw_faults args.l args.file_len args.raw_len args.out_len) (recorded (goal.at.returns-in-Refused c).After-check_record) c.in-Refused.is
+    step-handed (draw_faults args.l args.file_len args.raw_len args.out_len) (recorded (goal.at.returns-in_err-check_record c).After-check_record) c.in_err-check_record.was c.from_residual.ensures
 
-pub returns-in-Done : goal.returns-in-Done
-returns-in-Done c =
-    step-on (recorded (goal.at.returns-in-Done c).After-check_record) c.in-Done.is c.check_draw.ensures
+pub returns : goal.returns
+returns c =
+    step-on (recorded (goal.at.returns c).After-check_record) c.in_ok-check_record.was c.check_draw.ensures

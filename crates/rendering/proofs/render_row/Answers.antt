@@ -6,4 +6,4 @@ use Rattle.rendering.proofs.render_row.Goals as goal
 pub returns-else-l-eq8 : goal.returns-else-l-eq8
 returns-else-l-eq8 c =
     let args = c.args in
-    plain_row_rendered args.l args.file.now args.raw.now args.y args.out.now _ c.if-l.false (ne_eqb _ _ c.if-l-eq8.false) c.plain_row.ensures
+    plain_row_rendered args.l args.file.now args.raw.now args.y args.out.now _ c.if-l-eq8.false.0 (ne_eqb _ _ c.if-l-eq8.false.1) c.plain_row.ensures

@@ -1,12 +1,12 @@
 -- `rendering::render_rows` meets its contract: the invariant and its laws are in proofs/Picture.antt. Assumes nothing.
 use native.Mathlib.Omega.{arith}
-use Prim.Native.Nat.{◌+◌, ◌≤◌}
+use Prim.Native.Nat.{◌+◌, ◌*◌, ◌≤◌}
 use Rattle.pixels.specs.Render.{row_bytes}
 use Rattle.rendering.proofs.Picture.{row_small, rendered_room, rendered_next, rendered_all}
 use Rattle.rendering.proofs.render_rows.Goals.{In-loop-y}
 use Rattle.rendering.proofs.render_rows.Goals as goal
 
-room : (c : In-loop-y) → c.loop-y.at + row_bytes c.args.l ≤ c.args.l.output_len
+room : (c : In-loop-y) → c.loop-y.y * row_bytes c.args.l + row_bytes c.args.l ≤ c.args.l.output_len
 room c =
     rendered_room c.requires c.loop-y.invariant (omega (arith, c.loop-y-test.true))
 
@@ -17,6 +17,10 @@ overflow_mul-row_bytes c =
 pub overflow_mul-row_bytes-2 : goal.overflow_mul-row_bytes-2
 overflow_mul-row_bytes-2 c =
     record { fits = omega (arith, (row_small c.requires).1) }
+
+pub overflow_mul-at : goal.overflow_mul-at
+overflow_mul-at c =
+    record { fits = omega (arith, room (goal.at.overflow_mul-at c).In-loop-y, c.requires.room, c.well_formed) }
 
 pub overflow_add-end : goal.overflow_add-end
 overflow_add-end c =

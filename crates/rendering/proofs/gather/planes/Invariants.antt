@@ -1,11 +1,6 @@
 -- `rendering::gather::planes` meets its contract: the invariant and its laws are in proofs/Gathering.antt. Assumes nothing.
-use Prim.Native.Nat.{◌-◌}
-use lib.ListN.{length}
 use Rattle.rendering.proofs.Gathering.{GatheredPixels}
 use Rattle.rendering.proofs.gather.planes.Given as goal
 
-abbrev pub invariant-loop-at : goal.invariant-loop-at
-invariant-loop-at l = GatheredPixels l.raw l.plane_len l.from l.channels l.bytes l.le l.initial.out l.at l.place l.out
-
-abbrev pub decreases-loop-at : goal.decreases-loop-at
-decreases-loop-at l = length l.initial.out - l.at
+abbrev pub invariant-loop-p : goal.invariant-loop-p
+invariant-loop-p g l = GatheredPixels l.raw l.plane_len l.from l.channels g.row.BYTES l.le l.initial.out l.p l.out
