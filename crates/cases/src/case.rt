@@ -101,7 +101,7 @@ impl<'a> Case<'a> {
         let expected = self.number();
         match answer {
             Ok(_) => expected == 0,
-            Err(kind) => expected == u64::from(answer::number(*kind)),
+            Err(kind) => expected == u64::from(u32::from(*kind)),
         }
     }
 

@@ -20,6 +20,16 @@ pub enum Given {
     Picture(PictureCall, Picture),
 }
 
+impl Given {
+    // How many bytes there is room for in the buffer that the call is lent.
+    pub(crate) fn room(&self) -> usize {
+        match self {
+            Given::Strip(_, p) => p.room,
+            Given::Picture(_, p) => p.room,
+        }
+    }
+}
+
 #[derive(Drop)]
 pub struct Case {
     pub given: Given,
