@@ -1,4 +1,4 @@
-// What a call is given: its numbers, bytes, and the file part that has a palette's colours.
+// What a call is given: its numbers, its input, and the file part that has a palette's colours.
 use crate::calls::{PictureCall, StripCall};
 use crate::picture::Picture;
 use crate::strip::Strip;

@@ -139,6 +139,7 @@ fn derive(call: PictureCall, t: Trial, p: &mut Picture) {
     p.output_len = number(call, t, 16, output_len(p));
     p.colors = number(call, t, 17, colors(p));
 }
+
 // A place in the picture, or about its end.
 fn some_place(t: Trial, length: usize) -> usize {
     if t.once_in(360, 3) {
