@@ -74,7 +74,7 @@ impl<'a> Case<'a> {
         pairs
             .iter()
             .take(most)
-            .map(|pair| 16 * nibble(pair[0]) + nibble(pair[1]))
+            .map(|[high, low]| 16 * nibble(*high) + nibble(*low))
             .collect(self.alloc)
     }
 
