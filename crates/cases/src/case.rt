@@ -74,7 +74,7 @@ impl<'a> Case<'a> {
         pairs
             .iter()
             .take(most)
-            .map(|pair| 16 * nibble(pair[0]) + nibble(pair[1]))
+            .map(|[high, low]| 16 * nibble(*high) + nibble(*low))
             .collect(self.alloc)
     }
 
@@ -101,7 +101,7 @@ impl<'a> Case<'a> {
         let expected = self.number();
         match answer {
             Ok(_) => expected == 0,
-            Err(kind) => expected == u64::from(answer::number(*kind)),
+            Err(kind) => expected == u64::from(u32::from(*kind)),
         }
     }
 

@@ -1,4 +1,3 @@
-use crate::answers;
 use crate::case::Case;
 use std::alloc::AllocError;
 
@@ -10,7 +9,7 @@ pub(crate) fn marks(case: &mut Case) -> Result<bool, AllocError> {
     let width = case.size();
     let predict = case.is(b"predicted");
     let mut out = case.buffer()?;
-    let counted = answers::counted(damage::marks(&damage, row, channels, width, predict, &mut out));
+    let counted = damage::marks(&damage, row, channels, width, predict, &mut out);
     let same = case.answers(&counted) && case.size() == counted.unwrap_or(0);
     Ok(same && case.holds(out)?)
 }

@@ -1,5 +1,4 @@
 // Layouts. Eight words say one, LAYOUT in the cases: W H CH BYTES SLOTS FLAGS ALPHA MAP, where FLAGS has the letters of those that are on.
-use crate::answers;
 use crate::case::Case;
 use answer::ByteAt;
 use layout::{Fields, RasterLayout};
@@ -46,53 +45,25 @@ pub(crate) fn record(case: &mut Case) -> RasterLayout {
 pub(crate) fn checked(case: &mut Case) -> RasterLayout {
     let fields = fields(case);
     let mut ahead = *case;
-    answers::checked(layout::check_layout(fields)).unwrap_or_else(|_| derived(fields, &mut ahead))
-}
-
-fn sizes(l: RasterLayout) -> [usize; 14] {
-    let f = l.fields;
-    [
-        f.w,
-        f.h,
-        f.ch,
-        f.bytes,
-        f.slots,
-        f.alpha,
-        f.map,
-        l.encoded_width,
-        l.plane_channels,
-        l.planes,
-        l.plane_len,
-        l.scratch_len,
-        l.output_len,
-        l.colors,
-    ]
-}
-
-fn flags(f: Fields) -> [bool; 4] {
-    [f.palette, f.separate, f.le, f.white]
-}
-
-fn same(a: RasterLayout, b: RasterLayout) -> bool {
-    sizes(a) == sizes(b) && flags(a.fields) == flags(b.fields)
+    layout::check_layout(fields).unwrap_or_else(|_| derived(fields, &mut ahead))
 }
 
 // check_layout LAYOUT = NUMBER DERIVED
 pub(crate) fn check_layout(case: &mut Case) -> bool {
     let fields = fields(case);
-    let layout = answers::checked(layout::check_layout(fields));
-    case.answers(&layout) && layout.map_or(true, |l| same(l, derived(fields, case)))
+    let layout = layout::check_layout(fields);
+    case.answers(&layout) && layout.map_or(true, |l| l == derived(fields, case))
 }
 
 // check_record LAYOUT DERIVED = NUMBER
 pub(crate) fn check_record(case: &mut Case) -> bool {
-    let done = answers::done(layout::check_record(record(case)));
+    let done = layout::check_record(record(case));
     case.answers(&done)
 }
 
 // index RECORD K = NUMBER PLACE
 pub(crate) fn index(record: RasterLayout, case: &mut Case) -> bool {
     let k = ByteAt(case.size());
-    let place = answers::byte_place(layout::index(record, k));
+    let place = layout::index(record, k);
     case.says(place.map(|at| at.0 as u64))
 }

@@ -1,7 +1,6 @@
 // Runs rule 11.2's cases, the lines of `stdin`, over the library; prints those that differ, and then one line of counts.
 #![tactic(auto)]
 
-mod answers;
 mod case;
 mod damage_cases;
 mod layout_cases;

@@ -1,5 +1,4 @@
 // Pictures and planes. RECORD is a layout, or a layout and the seven words of a record by hand.
-use crate::answers;
 use crate::case::Case;
 use layout::RasterLayout;
 use std::alloc::AllocError;
@@ -12,7 +11,7 @@ pub(crate) fn render(record: RasterLayout, case: &mut Case) -> Result<bool, Allo
     let file = case.bytes_up_to(FILE)?;
     let raw = case.bytes()?;
     let mut out = case.buffer()?;
-    let done = answers::done(rendering::render(record, &file, &raw, &mut out));
+    let done = rendering::render(record, &file, &raw, &mut out);
     Ok(case.answers(&done) && case.holds(out)?)
 }
 
@@ -20,6 +19,6 @@ pub(crate) fn render(record: RasterLayout, case: &mut Case) -> Result<bool, Allo
 pub(crate) fn write_planes(record: RasterLayout, case: &mut Case) -> Result<bool, AllocError> {
     let picture = case.bytes()?;
     let mut planes = case.buffer()?;
-    let done = answers::done(writing::write_planes(record, &picture, &mut planes));
+    let done = writing::write_planes(record, &picture, &mut planes);
     Ok(case.answers(&done) && case.holds(planes)?)
 }

@@ -1,4 +1,3 @@
-use crate::answers;
 use crate::case::Case;
 use answer::{ByteAt, SampleAt};
 use std::alloc::AllocError;
@@ -9,7 +8,7 @@ pub(crate) fn read_word(case: &mut Case) -> Result<bool, AllocError> {
     let at = ByteAt(case.size());
     let width = case.size();
     let le = case.is(b"le");
-    let word = answers::word(words::read_word(&space, at, width, le));
+    let word = words::read_word(&space, at, width, le);
     Ok(case.says(word))
 }
 
@@ -19,7 +18,7 @@ pub(crate) fn load(case: &mut Case) -> Result<bool, AllocError> {
     let i = SampleAt(case.size());
     let wide = case.is(b"wide");
     let le = case.is(b"le");
-    let word = answers::loaded(words::load(&space, i, wide, le));
+    let word = words::load(&space, i, wide, le);
     Ok(case.says(word.map(u64::from)))
 }
 
@@ -29,6 +28,6 @@ pub(crate) fn byte_place(case: &mut Case) -> bool {
     let width = case.size();
     let length = case.size();
     case.word();
-    let place = answers::sample_place(words::byte_place(i, width, length));
+    let place = words::byte_place(i, width, length);
     case.says(place.map(|at| at.0 as u64))
 }

@@ -1,4 +1,4 @@
-// What a call is given: its numbers, bytes, and the file part that has a palette's colours.
+// What a call is given: its numbers, its input, and the file part that has a palette's colours.
 use crate::calls::{PictureCall, StripCall};
 use crate::picture::Picture;
 use crate::strip::Strip;
@@ -18,6 +18,16 @@ pub const BEFORE: u8 = 170;
 pub enum Given {
     Strip(StripCall, Strip),
     Picture(PictureCall, Picture),
+}
+
+impl Given {
+    // How many bytes there is room for in the buffer that the call is lent.
+    pub(crate) fn room(&self) -> usize {
+        match self {
+            Given::Strip(_, p) => p.room,
+            Given::Picture(_, p) => p.room,
+        }
+    }
 }
 
 #[derive(Drop)]

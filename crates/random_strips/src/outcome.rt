@@ -16,9 +16,11 @@ impl Fault {
     pub(crate) fn when(self, found: bool) -> Result<(), Fault> {
         if found { Err(self) } else { Ok(()) }
     }
+}
 
-    pub(crate) fn number(self) -> u32 {
-        self as u32
+impl From<Fault> for u32 {
+    fn from(fault: Fault) -> u32 {
+        fault as u32
     }
 }
 

@@ -57,7 +57,7 @@ fn some_slots(t: Trial, sort: Sort) -> usize {
     }
 }
 
-// Flag i of such a call, or once in so many times either of both.
+// Flag i of such a call, or once in 30 times either of both.
 fn flag(t: Trial, i: usize, good: bool) -> bool {
     if t.once_in(i.saturating_add(700), 30) {
         t.pick(730, 2) == 1
@@ -121,20 +121,25 @@ fn fields(call: PictureCall, t: Trial) -> Picture {
     }
 }
 
-// The derived fields, which `check_layout` is not given: there none is spoilt.
-fn derive(call: PictureCall, t: Trial, p: &mut Picture) {
-    let number = |i: usize, good: usize| match call {
+// Number i of such a call, of those that `check_layout` is not given: of that call none is spoilt.
+fn number(call: PictureCall, t: Trial, i: usize, good: usize) -> usize {
+    match call {
         PictureCall::CheckLayout => good,
         _ => t.spoilt(i, good),
-    };
-    p.encoded_width = number(11, encoded_width(p));
-    p.plane_channels = number(12, plane_channels(p));
-    p.planes = number(13, planes(p));
-    p.plane_len = number(14, plane_len(p));
-    p.scratch_len = number(15, scratch_len(p));
-    p.output_len = number(16, output_len(p));
-    p.colors = number(17, colors(p));
+    }
 }
+
+// The derived fields.
+fn derive(call: PictureCall, t: Trial, p: &mut Picture) {
+    p.encoded_width = number(call, t, 11, encoded_width(p));
+    p.plane_channels = number(call, t, 12, plane_channels(p));
+    p.planes = number(call, t, 13, planes(p));
+    p.plane_len = number(call, t, 14, plane_len(p));
+    p.scratch_len = number(call, t, 15, scratch_len(p));
+    p.output_len = number(call, t, 16, output_len(p));
+    p.colors = number(call, t, 17, colors(p));
+}
+
 // A place in the picture, or about its end.
 fn some_place(t: Trial, length: usize) -> usize {
     if t.once_in(360, 3) {
@@ -144,21 +149,17 @@ fn some_place(t: Trial, length: usize) -> usize {
     }
 }
 
-// The lengths and the place, of which none is spoilt for `check_layout` either.
+// The lengths and the place.
 fn lend(call: PictureCall, t: Trial, p: &mut Picture) {
-    let number = |i: usize, good: usize| match call {
-        PictureCall::CheckLayout => good,
-        _ => t.spoilt(i, good),
-    };
     let (input, output) = match call {
         PictureCall::Render => (p.scratch_len, p.output_len),
         _ => (p.output_len, p.scratch_len),
     };
     let map_end = p.map.saturating_add(p.colors.saturating_mul(6));
-    p.file = number(18, t.room(410, map_end)).min(MOST_FILE);
-    p.length = number(19, t.room(420, input)).min(LONGEST);
-    p.room = number(20, t.room(430, output)).min(LONGEST);
-    p.place = number(21, some_place(t, p.output_len));
+    p.file = number(call, t, 18, t.room(410, map_end)).min(MOST_FILE);
+    p.length = number(call, t, 19, t.room(420, input)).min(LONGEST);
+    p.room = number(call, t, 20, t.room(430, output)).min(LONGEST);
+    p.place = number(call, t, 21, some_place(t, p.output_len));
 }
 
 // One derived field made wrong by hand, now and then, when all that rests on it is chosen.

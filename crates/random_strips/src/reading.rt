@@ -163,7 +163,7 @@ pub(crate) fn outcome(alloc: Global, case: &Case) -> Result<Outcome, AllocError>
         Given::Picture(call, p) => answer_picture(*call, p, input, file, &mut buffer),
     };
     Ok(Outcome {
-        answer: answer.map_err(Fault::number),
+        answer: answer.map_err(u32::from),
         buffer,
     })
 }

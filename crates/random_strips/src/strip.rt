@@ -1,7 +1,8 @@
 use crate::case::write_numbers;
 use std::fmt;
 
-// The numbers of a call on a strip or words: how long its input and the buffer for its output are too, and a place asked for.
+// The numbers of a call on a strip or words: with them how long a file part is, at which none looks, the input and the buffer for the
+// output, and a place asked for.
 #[derive(Clone, Copy)]
 pub struct Strip {
     pub le: bool,

@@ -92,7 +92,7 @@ fn some_place(call: StripCall, t: Trial, p: &Strip) -> usize {
     }
 }
 
-// Flag i of such a call, which a likely fault in its place turns off, but for the number 1.
+// Flag i of such a call, or once in 30 times whether a likely fault of its number, 0 or 1, is 1.
 fn flag(t: Trial, i: usize, good: bool) -> bool {
     t.spoilt(i, usize::from(good)) == 1
 }

@@ -51,7 +51,8 @@ impl Trial {
         }
     }
 
-    // Number i of a call, or once in so many times a likely fault in its place.
+    // Number i of a call, or once in 30 times a likely fault in its place. A picture's numbers are 0 to 21, and a strip's 11 to 21, each in
+    // the order of its fields.
     pub(crate) fn spoilt(self, i: usize, good: usize) -> usize {
         if self.once_in(i.saturating_add(700), 30) {
             self.edge(i.saturating_mul(2).saturating_add(740), good)
