@@ -1,10 +1,9 @@
 -- Each promise of this crate allows one answer and one content of the buffer. Assumes nothing.
-use Rattle.std.specs.Prelude.{Ok, Err}
 use Prim.Native.Nat.{ℕ}
-use mathlib.Core.Path.{◌≡◌, refl, sym, ap, ◌∙◌}
+use mathlib.Core.Path.{◌≡◌, sym, ◌∙◌}
 use mathlib.Core.List.{List}
-use Rattle.answer.specs.Outcome.{Outcome, done, refused, outcome, Answer}
-use Rattle.answer.proofs.Promised.{determined, kind, kind-number, once, answer_once}
+use Rattle.answer.specs.Outcome.{outcome, Answer}
+use Rattle.answer.proofs.Promised.{determined, answer_once}
 use Rattle.layout.specs.declared.RasterLayout.{RasterLayout}
 use Rattle.files.specs.File.{Measured, FileWritten}
 

@@ -5,12 +5,10 @@ use native.Mathlib.Omega.{arith}
 use mathlib.Core.Path.{◌≡◌, refl, sym, ap, ◌∙◌}
 use mathlib.Core.List.{List, ◌++◌}
 use lib.ListN.{length, get_or, take, drop, length-append, length-take, get_or-append}
-use Rattle.answer.specs.Outcome.{Sound, Promise, unless, done, Done}
+use Rattle.answer.specs.Outcome.{Sound, Promise, unless, done}
 use Rattle.answer.specs.Table.{table, filled}
 use Rattle.answer.proofs.Filling.{part, length_part, part_filled, stores-filled, table_same, table_self}
 use Rattle.answer.proofs.Promised.{finishes}
-use Rattle.transport.specs.Moved.{Committed}
-use Rattle.transport.proofs.Copied.{copied}
 use Rattle.layout.specs.declared.RasterLayout.{RasterLayout}
 use Rattle.layout.specs.Layout.{scratch_length}
 use Rattle.files.specs.declared.plan.Plan.{Plan}
@@ -49,26 +47,30 @@ module _ {l : RasterLayout} {p : Plan} {planes old : List ℕ} (r : Ready l p pl
         ∙ stores-filled (byte_of l p planes) (λ q. get_or before (0 + q) 0) old old 0 p.planes (λ q h. sym (get_or-append before (take (scratch_length l.fields) planes) 0 (0 + q) (omega (arith, there)))) (omega (arith, r.planned.room)) refl
         ∙ ap (λ (n : ℕ). filled n (byte_of l p planes) old) (zero-add p.planes)
 
-    planes-filled : (answer : Done) (new : List ℕ) → Committed (part 0 l.scratch_len planes) (part p.planes p.length mid) answer new → new ≡ table (p.length - p.planes) (λ k. byte_of l p planes (p.planes + k))
-    planes-filled answer new moved =
+    planes-filled : {new : List ℕ} → new ≡ part 0 l.scratch_len planes → new ≡ table (p.length - p.planes) (λ k. byte_of l p planes (p.planes + k))
+    planes-filled moved =
         let f = l.fields in
         let before = front f p.each in
         let there : length before ≡ p.planes = length_front f p.each ∙ sym (laid r.planned).planes in
         let scratch = scratch_is r.whole in
         let size : p.length - p.planes ≡ scratch_length f = omega (arith, laid r.planned) in
         let source = take (scratch_length f) planes in
-        let target = part p.planes p.length mid in
         let whole : l.scratch_len - 0 ≡ scratch_length f = omega (arith, scratch) in
         let same : part 0 l.scratch_len planes ≡ source = ap (λ (n : ℕ). take n planes) whole in
         let some : length source ≡ p.length - p.planes = simp length-take (omega (arith, size, r.all, scratch)) in
-        let room : length target ≡ p.length - p.planes = length_part p.planes p.length mid ends mid_room in
-        copied source target new answer (rw same at moved) (some ∙ sym room)
+        moved
+        ∙ same
         ∙ sym (table_self source)
         ∙ ap (λ (n : ℕ). table n (λ k. get_or source k 0)) some
         ∙ table_same (p.length - p.planes) _ _ (λ k h. sym ((holds_second before source there).bytes k (omega (arith, some))))
 
-    pub file_put : (answer : Done) (new : List ℕ) → Committed (part 0 l.scratch_len planes) (part p.planes p.length mid) answer new → take p.planes mid ++ (new ++ drop (p.length - p.planes) (drop p.planes mid)) ≡ filled p.length (byte_of l p planes) old
-    file_put answer new moved = part_filled (byte_of l p planes) p.planes p.length old mid new ends front-filled (planes-filled answer new moved)
+    -- as many bytes as the planes have
+    pub planes_long : length (part p.planes p.length mid) ≡ length (part 0 l.scratch_len planes)
+    planes_long =
+        length_part p.planes p.length mid ends mid_room ∙ omega (arith, laid r.planned, scratch_is r.whole) ∙ sym (length_part 0 l.scratch_len planes (omega arith) r.all)
+
+    pub file_put : {new : List ℕ} → new ≡ part 0 l.scratch_len planes → take p.planes mid ++ (new ++ drop (p.length - p.planes) (drop p.planes mid)) ≡ filled p.length (byte_of l p planes) old
+    file_put {new} moved = part_filled (byte_of l p planes) p.planes p.length old mid new ends front-filled (planes-filled moved)
 
 -- the promise, where no fault is found
 pub file_written : (l : RasterLayout) (each : ℕ) (p : Plan) (planes old new : List ℕ) → Asked l each → p ≡ plan_of l.fields each → l.scratch_len ≤ length planes → Sound (write_faults l each planes old) → FilePut l p planes old new → Promise (unless (write_faults l each planes old) (file_length l.fields each)) (file_of l.fields each planes) old (done p.length) new

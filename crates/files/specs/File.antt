@@ -1,6 +1,6 @@
 -- A written file (rules 15.1 to 15.6): its entries, its values, its strips, what it is served for, and what the calls promise. Assumes nothing.
 use Rattle.std.specs.Prelude.{ℕ, ◌+◌, ◌*◌, ◌≡◌, Bool, not, ◌&&◌, ◌||◌, List, [], ◌∷◌, ◌++◌, length, take, drop, get_or, eqb, ltb, leb}
-use Rattle.answer.specs.Outcome.{Outcome, done, refused, number, Fault, unless, unsupported, invalid, truncated, output_too_small, pick, Promise, outcome, Answer}
+use Rattle.answer.specs.Outcome.{Fault, unless, unsupported, invalid, truncated, output_too_small, pick, Promise, outcome, Answer}
 use Rattle.answer.specs.Table.{table}
 use Rattle.laws.specs.Turns.{sum, end_to_end}
 use Rattle.words.specs.Digits.{digit, value}

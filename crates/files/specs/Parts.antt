@@ -1,12 +1,17 @@
 -- What the crate's own functions need and answer. Assumes nothing.
-use Rattle.std.specs.Prelude.{ℕ, ◌+◌, ◌-◌, ◌≤◌, ◌<◌, ◌≡◌, true, List, length, get_or, ltb}
+use Rattle.std.specs.Prelude.{ℕ, ◌+◌, ◌-◌, ◌≤◌, ◌<◌, ◌≡◌, Bool, true, false, List, length, get_or, ltb}
 use Rattle.answer.specs.Outcome.{pick, Sound}
 use Rattle.answer.specs.Table.{filled, stores}
 use Rattle.layout.specs.declared.Fields.{Fields}
 use Rattle.layout.specs.declared.RasterLayout.{RasterLayout}
 use Rattle.layout.specs.Layout.{layout_faults, completed}
+use Rattle.entries.specs.Entries.{SHORT, LONG}
 use Rattle.files.specs.declared.plan.Plan.{Plan}
-use Rattle.files.specs.File.{row_bytes, strips, outside, entry_count, bits_place, offsets_place, counts_place, resolutions_place, planes_place, file_length, served, Entry, entry_bytes, file_of}
+use Rattle.files.specs.declared.numbers.Kind.{Kind}
+use Rattle.files.specs.declared.numbers.Kind.TheVariants.{Short, Long, Rational}
+use Rattle.files.specs.declared.tables.Table.{Table}
+use Rattle.files.specs.declared.tables.Table.TheVariants.{Places, Lengths}
+use Rattle.files.specs.File.{RATIONAL, row_bytes, strips, outside, entry_count, bits_place, offsets_place, counts_place, resolutions_place, planes_place, file_length, served, Entry, entry_bytes, file_of}
 
 -- a layout that is served, and rows of a strip
 pub record Fit (f : Fields) (each : ℕ) : Type 0 where
@@ -64,3 +69,13 @@ pub record EntryPut (e : Entry) (at : ℕ) (old new : List ℕ) : Type 0 where
 
 abbrev pub FilePut : RasterLayout → Plan → List ℕ → List ℕ → List ℕ → Type 0
 FilePut l p planes old new = new ≡ filled p.length (λ k. get_or (file_of l.fields p.each planes) k 0) old
+
+-- the types of fields that are written, as numbers; and which of the strips' tables is that of places
+abbrev pub type_of : Kind → ℕ
+type_of Short = SHORT
+type_of Long = LONG
+type_of Rational = RATIONAL
+
+abbrev pub is_places : Table → Bool
+is_places Places = true
+is_places Lengths = false

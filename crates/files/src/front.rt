@@ -4,39 +4,41 @@ ghost use Rattle.answer.specs.Outcome.{pick};
 ghost use Rattle.files.specs.File.{bits_of, bits_last, photometric as photometricOf, planar as planarOf, in_entry, front};
 ghost use Rattle.files.specs.Parts.{Fit, plan_of, Planned, Wrote};
 
-use crate::numbers::{put_entry, put_long, put_short};
-use crate::plan::{Plan, choose};
-use crate::tables::{put_bits, put_resolutions, put_strips, strip_bytes};
+use crate::numbers::{Kind, put_entry, put_long, put_short};
+use crate::plan::Plan;
+use crate::tables::{Table, put_bits, put_resolutions, put_strips, strip_bytes};
 use layout::Fields;
 
-// The first two bytes, read as a SHORT.
+// The first two bytes, read as a Kind::Short.
 const II: usize = 18761;
 
-// The types of fields that are written.
-const SHORT: usize = 3;
-
-const LONG: usize = 4;
-
-const RATIONAL: usize = 5;
-
 // The bits of a sample.
+#[tactic(auto, unfolding(crate::specs::File::bits_of))]
 fn depth_of(f: Fields) -> usize
     requires { f.bytes ≤ 8 }
     ensures { result ≡ bits_of f }
 {
-    choose(f.slots == 8, 1, 8 * f.bytes)
+    if f.slots == 8 { 1 } else { 8 * f.bytes }
 }
 
+#[tactic(auto, unfolding(crate::specs::File::photometric))]
 fn photometric(f: Fields) -> usize
     ensures { result ≡ photometricOf f }
 {
-    choose(3 <= f.ch, 2, choose(f.white, 0, 1))
+    if 3 <= f.ch {
+        2
+    } else if f.white {
+        0
+    } else {
+        1
+    }
 }
 
+#[tactic(auto, unfolding(crate::specs::File::planar))]
 fn planar(f: Fields) -> usize
     ensures { result ≡ planarOf f }
 {
-    choose(f.separate, 2, 1)
+    if f.separate { 2 } else { 1 }
 }
 
 // The last four bytes of 258's entry: the bits of one sample, of two, or where all stand.
@@ -45,15 +47,20 @@ fn bits_last(f: Fields, p: Plan) -> usize
     ensures { result ≡ bits_last f }
 {
     let depth = depth_of(f);
-    let inside = choose(f.ch == 2, depth + 65536 * depth, depth);
-    choose(2 < f.ch, p.bits, inside)
+    if 2 < f.ch {
+        p.bits
+    } else if f.ch == 2 {
+        depth + 65536 * depth
+    } else {
+        depth
+    }
 }
 
 // Those of 273's and 279's: what the one strip has, or where all strips' stand.
 fn strips_last(p: Plan, one: usize, place: usize) -> usize
     ensures { result ≡ pick (in_entry 4 p.strips) one place }
 {
-    choose(p.strips <= 1, one, place)
+    if p.strips <= 1 { one } else { place }
 }
 
 // The header, and how many entries there are.
@@ -72,11 +79,11 @@ fn put_shape(out: &mut [u8], f: Fields, p: Plan)
     requires { Planned f p out.old }
     ensures { Wrote (front f p.each) 10 60 out.old out.new }
 {
-    put_entry(out, 10, 256, SHORT, 1, f.w);
-    put_entry(out, 22, 257, SHORT, 1, f.h);
-    put_entry(out, 34, 258, SHORT, f.ch, bits_last(f, p));
-    put_entry(out, 46, 259, SHORT, 1, 1);
-    put_entry(out, 58, 262, SHORT, 1, photometric(f));
+    put_entry(out, 10, 256, Kind::Short, 1, f.w);
+    put_entry(out, 22, 257, Kind::Short, 1, f.h);
+    put_entry(out, 34, 258, Kind::Short, f.ch, bits_last(f, p));
+    put_entry(out, 46, 259, Kind::Short, 1, 1);
+    put_entry(out, 58, 262, Kind::Short, 1, photometric(f));
 }
 
 // Tags 273 to 279.
@@ -86,10 +93,10 @@ fn put_split(out: &mut [u8], f: Fields, p: Plan)
 {
     let offsets = strips_last(p, p.planes, p.offsets);
     let counts = strips_last(p, strip_bytes(p, p.rows), p.counts);
-    put_entry(out, 70, 273, LONG, p.strips, offsets);
-    put_entry(out, 82, 277, SHORT, 1, f.ch);
-    put_entry(out, 94, 278, LONG, 1, p.each);
-    put_entry(out, 106, 279, LONG, p.strips, counts);
+    put_entry(out, 70, 273, Kind::Long, p.strips, offsets);
+    put_entry(out, 82, 277, Kind::Short, 1, f.ch);
+    put_entry(out, 94, 278, Kind::Long, 1, p.each);
+    put_entry(out, 106, 279, Kind::Long, p.strips, counts);
 }
 
 // Tags 282 to 317.
@@ -97,11 +104,11 @@ fn put_rest(out: &mut [u8], f: Fields, p: Plan)
     requires { Planned f p out.old }
     ensures { Wrote (front f p.each) 118 60 out.old out.new }
 {
-    put_entry(out, 118, 282, RATIONAL, 1, p.resolutions);
-    put_entry(out, 130, 283, RATIONAL, 1, p.resolutions + 8);
-    put_entry(out, 142, 284, SHORT, 1, planar(f));
-    put_entry(out, 154, 296, SHORT, 1, 1);
-    put_entry(out, 166, 317, SHORT, 1, 1);
+    put_entry(out, 118, 282, Kind::Rational, 1, p.resolutions);
+    put_entry(out, 130, 283, Kind::Rational, 1, p.resolutions + 8);
+    put_entry(out, 142, 284, Kind::Short, 1, planar(f));
+    put_entry(out, 154, 296, Kind::Short, 1, 1);
+    put_entry(out, 166, 317, Kind::Short, 1, 1);
 }
 
 // With alpha tag 338, and that there is no next directory.
@@ -110,7 +117,7 @@ fn put_end(out: &mut [u8], f: Fields, p: Plan)
     ensures { Wrote (front f p.each) 178 (p.bits - 178) out.old out.new }
 {
     if p.entries == 15 {
-        put_entry(out, 178, 338, SHORT, 1, 2);
+        put_entry(out, 178, 338, Kind::Short, 1, 2);
         put_long(out, 190, 0)
     } else {
         put_long(out, 178, 0)
@@ -136,7 +143,7 @@ pub(crate) fn put_front(f: Fields, p: Plan, out: &mut [u8])
 {
     put_directory(out, f, p);
     put_bits(out, f, p, depth_of(f));
-    put_strips(out, f, p, true);
-    put_strips(out, f, p, false);
+    put_strips(out, f, p, Table::Places);
+    put_strips(out, f, p, Table::Lengths);
     put_resolutions(out, f, p);
 }

@@ -1,7 +1,7 @@
 // A TIFF file of one page, written from planes: what it is served for, how long it is, and the file itself, which `directory` reads back.
 #![tactic(auto)]
 
-use answer::{Refusal, fault, first_of};
+use answer::{Refusal, fault};
 use layout::{Fields, RasterLayout};
 
 mod front;
@@ -17,6 +17,7 @@ ghost use Rattle.files.specs.Parts.{Ready, FilePut};
 use plan::{Plan, plan_of};
 
 // Whether files of a layout are written.
+#[tactic(auto, unfolding(crate::specs::File::served))]
 fn served(f: Fields) -> bool
     ensures { result ≡ servedOf f }
 {
@@ -27,17 +28,17 @@ fn served(f: Fields) -> bool
 }
 
 // All faults but those of the buffers.
+#[tactic(auto, using(answer::proofs::Chains::unless_next))]
 fn check_asked(l: RasterLayout, rows_per_strip: usize) -> Result<(), Refusal>
     ensures { Step (asked_faults l rows_per_strip) result }
 {
     let f = l.fields;
-    let whole = layout::check_record(l);
-    let kind = fault(!served(f), Refusal::Unsupported);
-    let rows = fault(
+    layout::check_record(l)?;
+    fault(!served(f), Refusal::Unsupported)?;
+    fault(
         (rows_per_strip == 0) | (f.h < rows_per_strip),
         Refusal::Invalid,
-    );
-    first_of(whole, first_of(kind, rows))
+    )
 }
 
 // The bytes of the file that `write_file` writes.
@@ -59,7 +60,7 @@ fn put_file(l: RasterLayout, p: Plan, planes: &[u8], out: &mut [u8])
     let at = p.planes;
     let end = p.length;
     front::put_front(f, p, out);
-    transport::commit_uninit(&planes[0..n], &mut out[at..end]);
+    out[at..end].copy_from_slice(&planes[0..n]);
 }
 
 // A file of one page whose strips are the planes, each of so many rows and the last of a plane of what is left.

@@ -1,7 +1,27 @@
 // Numbers of a file, the least significant byte first, and entries of them.
-ghost use Rattle.std.specs.Prelude.{true, ◌+◌, ◌≤◌, length};
+ghost use Rattle.std.specs.Prelude.{◌≡◌, true, ◌+◌, ◌≤◌, length};
 ghost use Rattle.words.specs.Word.{Put};
-ghost use Rattle.files.specs.Parts.{EntryPut};
+ghost use Rattle.files.specs.Parts.{type_of, EntryPut};
+
+// The types of fields that are written.
+#[derive(Clone, Copy)]
+pub(crate) enum Kind {
+    Short,
+    Long,
+    Rational,
+}
+
+impl From<Kind> for usize {
+    ghost from_gives = { λ kind n. n ≡ type_of kind };
+
+    fn from(kind: Kind) -> usize {
+        match kind {
+            Kind::Short => 3,
+            Kind::Long => 4,
+            Kind::Rational => 5,
+        }
+    }
+}
 
 // The low two bytes of any number.
 pub(crate) fn put_short(out: &mut [u8], at: usize, v: usize)
@@ -28,15 +48,15 @@ pub(crate) fn put_entry(
     out: &mut [u8],
     at: usize,
     tag: usize,
-    kind: usize,
+    kind: Kind,
     count: usize,
     last: usize,
 )
     requires { at + 12 ≤ length out.old }
-    ensures { EntryPut (record { tag = tag; kind = kind; count = count; last = last }) at out.old out.new }
+    ensures { EntryPut (record { tag = tag; kind = type_of kind; count = count; last = last }) at out.old out.new }
 {
     put_short(out, at, tag);
-    put_short(out, at + 2, kind);
+    put_short(out, at + 2, usize::from(kind));
     put_long(out, at + 4, count);
     put_long(out, at + 8, last);
 }

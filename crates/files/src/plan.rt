@@ -1,10 +1,9 @@
 // Where the parts of a file stand.
 ghost use Rattle.std.specs.Prelude.{◌≡◌, ◌*◌, ◌≤◌};
-ghost use Rattle.answer.specs.Outcome.{pick};
-ghost use Rattle.files.specs.File.{outside as outsideOf};
+ghost use Rattle.files.specs.File.{outside as outsideOf, entry_count as entryCount};
 ghost use Rattle.files.specs.Parts.{plan_of, Asked};
 
-use layout::RasterLayout;
+use layout::{Fields, RasterLayout};
 
 // Rows of the picture and of a strip, bytes of a row, how many strips and entries there are, how many of their numbers stand outside the entries,
 // where the parts stand, and the bytes of all.
@@ -25,22 +24,21 @@ pub(crate) struct Plan {
     pub length: usize,
 }
 
-// One of two numbers.
-pub(crate) fn choose(first: bool, a: usize, b: usize) -> usize
-    ensures { result ≡ pick first a b }
-{
-    match first {
-        true => a,
-        false => b,
-    }
-}
-
 // How many of n values of a width stand outside their entry.
+#[tactic(auto, unfolding(crate::specs::File::outside))]
 fn outside(width: usize, n: usize) -> usize
     requires { width * n ≤ 4294967296 }
     ensures { result ≡ outsideOf width n }
 {
-    choose(width * n <= 4, 0, n)
+    if width * n <= 4 { 0 } else { n }
+}
+
+// How many entries there are: with alpha one more.
+#[tactic(auto, unfolding(crate::specs::File::entry_count))]
+fn entry_count(f: Fields) -> usize
+    ensures { result ≡ entryCount f }
+{
+    if f.alpha == 0 { 14 } else { 15 }
 }
 
 pub(crate) fn plan_of(l: RasterLayout, each: usize) -> Plan
@@ -49,7 +47,7 @@ pub(crate) fn plan_of(l: RasterLayout, each: usize) -> Plan
 {
     let f = l.fields;
     let strips = (f.h + (each - 1)) / each * l.planes;
-    let entries = choose(f.alpha == 0, 14, 15);
+    let entries = entry_count(f);
     let bits_outside = outside(2, f.ch);
     let strips_outside = outside(4, strips);
     let bits = 14 + 12 * entries;

@@ -5,10 +5,10 @@ ghost use Rattle.answer.specs.Outcome.{pick};
 ghost use Rattle.layout.specs.Layout.{byte_limit};
 ghost use Rattle.directory.specs.Page.{smaller};
 ghost use Rattle.files.specs.File.{bits_of, front};
-ghost use Rattle.files.specs.Parts.{Planned, left_after, Wrote};
+ghost use Rattle.files.specs.Parts.{Planned, left_after, is_places, Wrote};
 
 use crate::numbers::{put_long, put_short};
-use crate::plan::{Plan, choose};
+use crate::plan::Plan;
 use layout::Fields;
 
 // The bytes of a strip that finds so many rows left of its plane.
@@ -16,7 +16,7 @@ pub(crate) fn strip_bytes(p: Plan, left: usize) -> usize
     requires { p.each * p.row ≤ byte_limit }
     ensures { result ≡ smaller p.each left * p.row }
 {
-    choose(p.each < left, p.each, left) * p.row
+    left.min(p.each) * p.row
 }
 
 // The rows that the next strip finds left, where this one finds so many: those past it, or all of the next plane.
@@ -31,30 +31,53 @@ pub(crate) fn put_bits(out: &mut [u8], f: Fields, p: Plan, depth: usize)
     requires { (depth ≡ bits_of f) × Planned f p out.old }
     ensures { Wrote (front f p.each) p.bits (2 * p.bits_outside) out.old out.new }
 {
-    let n = p.bits_outside;
-    let mut j: usize = 0;
-    while j < n {
+    for j in 0..p.bits_outside {
         put_short(out, p.bits + 2 * j, depth);
-        j += 1;
     }
 }
 
-// A LONG for each strip: where it stands if `places`, else its length.
-pub(crate) fn put_strips(out: &mut [u8], f: Fields, p: Plan, places: bool)
+// The two tables of the strips: where each stands, and its length.
+#[derive(Clone, Copy)]
+pub(crate) enum Table {
+    Places,
+    Lengths,
+}
+
+impl Table {
+    // Where it stands.
+    fn begin(self, p: Plan) -> usize
+        ensures { result ≡ pick (is_places self) p.offsets p.counts }
+    {
+        match self {
+            Table::Places => p.offsets,
+            Table::Lengths => p.counts,
+        }
+    }
+
+    // What it has of a strip.
+    fn number(self, place: usize, bytes: usize) -> usize
+        ensures { result ≡ pick (is_places self) place bytes }
+    {
+        match self {
+            Table::Places => place,
+            Table::Lengths => bytes,
+        }
+    }
+}
+
+// A LONG for each strip.
+pub(crate) fn put_strips(out: &mut [u8], f: Fields, p: Plan, table: Table)
     requires { Planned f p out.old }
-    ensures { Wrote (front f p.each) (pick places p.offsets p.counts) (4 * p.strips_outside) out.old out.new }
+    ensures { Wrote (front f p.each) (pick (is_places table) p.offsets p.counts) (4 * p.strips_outside) out.old out.new }
 {
-    let at = choose(places, p.offsets, p.counts);
-    let n = p.strips_outside;
-    let mut k: usize = 0;
+    let at = table.begin(p);
     let mut place = p.planes;
     let mut left = p.rows;
-    while k < n {
+    for k in 0..p.strips_outside {
         let bytes = strip_bytes(p, left);
-        put_long(out, at + 4 * k, choose(places, place, bytes));
+        put_long(out, at + 4 * k, table.number(place, bytes));
         place += bytes;
         left = left_after(p, left);
-        k += 1;
     }
 }
 

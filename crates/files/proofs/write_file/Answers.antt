@@ -6,21 +6,22 @@ use mathlib.Core.Path.{◌≡◌, ap}
 use mathlib.Core.List.{List}
 use lib.ListN.{length}
 use Rattle.answer.specs.Outcome.{Fault, Sound, here, later, next, none}
+use Rattle.answer.proofs.Handed.{handed}
 use Rattle.answer.proofs.Promised.{refuses, first_more, sound_then, sound_more, step-first, step-sound}
 use Rattle.files.specs.declared.plan.Plan.{Plan}
 use Rattle.files.specs.File.{asked_faults, write_faults, file_length}
 use Rattle.files.specs.Parts.{Asked, plan_of}
 use Rattle.files.proofs.Asking.{asked}
 use Rattle.files.proofs.Filing.{ready, file_written}
-use Rattle.files.proofs.write_file.Goals.{After-plan_of-p, In-Done}
+use Rattle.files.proofs.write_file.Goals.{After-plan_of-p, In_ok-check_asked}
 use Rattle.files.proofs.write_file.Goals as goal
 
 -- what was asked for has no fault
-sound : (c : In-Done) → let args = c.args in Sound (asked_faults args.l args.rows_per_strip)
+sound : (c : In_ok-check_asked) → let args = c.args in Sound (asked_faults args.l args.rows_per_strip)
 sound c =
-    step-sound c.check_asked.ensures c.in-Done.is
+    step-sound c.check_asked.ensures c.in_ok-check_asked.was
 
-fit : (c : In-Done) → let args = c.args in Asked args.l args.rows_per_strip
+fit : (c : In_ok-check_asked) → let args = c.args in Asked args.l args.rows_per_strip
 fit c =
     asked _ _ (sound c)
 
@@ -34,35 +35,35 @@ pub returns-then-planes-l : goal.returns-then-planes-l
 returns-then-planes-l c =
     let faults : List Fault = let args = c.args in write_faults args.l args.rows_per_strip args.planes.now args.out.now in
     let args = c.args in
-    refuses faults _ _ _ (sound_then (sound (goal.at.returns-then-planes-l c).In-Done) (here (lt-ltb (length args.planes.now) args.l.scratch_len (omega (arith, c.if-planes-l.true)))))
+    refuses faults _ _ _ (sound_then (sound (goal.at.returns-then-planes-l c).In_ok-check_asked) (here (lt-ltb (length args.planes.now) args.l.scratch_len (omega (arith, c.if-planes-l.true)))))
 
 pub plan_of-p-requires : goal.plan_of-p-requires
 plan_of-p-requires c =
-    fit (goal.at.plan_of-p-requires c).In-Done
+    fit (goal.at.plan_of-p-requires c).In_ok-check_asked
 
 pub returns-then-out-p : goal.returns-then-out-p
 unfolding plan_of
 returns-then-out-p c =
     let faults : List Fault = let args = c.args in write_faults args.l args.rows_per_strip args.planes.now args.out.now in
     let args = c.args in
-    refuses faults _ _ _ (sound_then (sound (goal.at.returns-then-out-p c).In-Done) (later (le-ltb (length args.planes.now) args.l.scratch_len (omega (arith, c.if-planes-l.false))) (here (lt-ltb (length args.out.now) (file_length args.l.fields args.rows_per_strip) (omega (arith, c.if-out-p.true, length_is (goal.at.returns-then-out-p c).After-plan_of-p))))))
+    refuses faults _ _ _ (sound_then (sound (goal.at.returns-then-out-p c).In_ok-check_asked) (later (le-ltb (length args.planes.now) args.l.scratch_len (omega (arith, c.if-planes-l.false))) (here (lt-ltb (length args.out.now) (file_length args.l.fields args.rows_per_strip) (omega (arith, c.if-out-p.true, length_is (goal.at.returns-then-out-p c).After-plan_of-p))))))
 
 pub put_file-requires : goal.put_file-requires
 put_file-requires c =
-    ready _ _ _ _ _ (fit (goal.at.put_file-requires c).In-Done) c.plan_of-p.ensures (omega (arith, c.if-planes-l.false)) (omega (arith, c.if-out-p.false))
+    ready _ _ _ _ _ (fit (goal.at.put_file-requires c).In_ok-check_asked) c.plan_of-p.ensures (omega (arith, c.if-planes-l.false)) (omega (arith, c.if-out-p.false))
 
-pub returns-in-Refused : goal.returns-in-Refused
-returns-in-Refused c =
+pub returns-in_err-check_asked : goal.returns-in_err-check_asked
+returns-in_err-check_asked c =
     let faults : List Fault = let args = c.args in write_faults args.l args.rows_per_strip args.planes.now args.out.now in
-    refuses faults _ _ _ (first_more _ (step-first c.check_asked.ensures c.in-Refused.is))
+    rw (handed _ _ c.from_residual.ensures) (refuses faults _ _ _ (first_more _ (step-first c.check_asked.ensures c.in_err-check_asked.was)))
 
-pub returns-else-out-p : goal.returns-else-out-p
+pub returns : goal.returns
 unfolding plan_of
-returns-else-out-p c =
+returns c =
     let args = c.args in
     let planes = args.planes.now in
     let out = args.out.now in
     let all : args.l.scratch_len ≤ length planes = omega (arith, c.if-planes-l.false) in
-    file_written args.l args.rows_per_strip _ planes out _ (fit (goal.at.returns-else-out-p c).In-Done) c.plan_of-p.ensures all
-    (sound_more (sound (goal.at.returns-else-out-p c).In-Done) (next (le-ltb (length planes) args.l.scratch_len all) (next (le-ltb (length out) (file_length args.l.fields args.rows_per_strip) (omega (arith, c.if-out-p.false, length_is (goal.at.returns-else-out-p c).After-plan_of-p))) none)))
+    file_written args.l args.rows_per_strip _ planes out _ (fit (goal.at.returns c).In_ok-check_asked) c.plan_of-p.ensures all
+    (sound_more (sound (goal.at.returns c).In_ok-check_asked) (next (le-ltb (length planes) args.l.scratch_len all) (next (le-ltb (length out) (file_length args.l.fields args.rows_per_strip) (omega (arith, c.if-out-p.false, length_is (goal.at.returns c).After-plan_of-p))) none)))
     c.put_file.ensures

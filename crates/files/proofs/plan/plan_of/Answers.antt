@@ -56,10 +56,10 @@ unfolding strips strips_per_plane
 counted l each whole = ap (λ (m : RasterLayout). (l.fields.h + (each - 1)) / each * m.planes) whole
 
 -- how many entries, and numbers outside them
-entries_are : (c : After-outside-strips_outside) → c.choose-entries.result ≡ entry_count c.args.l.fields
+entries_are : (c : After-outside-strips_outside) → c.entry_count-entries.result ≡ entry_count c.args.l.fields
 unfolding entry_count strips strips_per_plane
 entries_are c =
-    c.choose-entries.ensures
+    c.entry_count-entries.ensures
 
 strips_are : (c : After-outside-strips_outside) → let args = c.args in c.outside-strips_outside.result ≡ outside 4 (strips args.l.fields args.each)
 unfolding strips strips_per_plane
@@ -67,7 +67,7 @@ strips_are c =
     c.outside-strips_outside.ensures ∙ ap (outside 4) (counted c.args.l c.args.each c.requires.whole)
 
 -- none is large
-few : (c : After-outside-strips_outside) → ((c.choose-entries.result ≤ 15) × (c.outside-bits_outside.result ≤ 4)) × (c.outside-strips_outside.result ≤ 65536)
+few : (c : After-outside-strips_outside) → ((c.entry_count-entries.result ≤ 15) × (c.outside-bits_outside.result ≤ 4)) × (c.outside-strips_outside.result ≤ 65536)
 unfolding strips strips_per_plane
 few c =
     let known : Accepted c.args.l.fields = fields_accepted _ _ c.requires.fit in
@@ -101,6 +101,16 @@ pub outside-strips_outside-requires : goal.outside-strips_outside-requires
 unfolding row_bytes strips strips_per_plane
 outside-strips_outside-requires c =
     omega (arith, counted c.args.l c.args.each c.requires.whole, strips-few _ _ c.requires.fit)
+
+pub overflow_mul-bits : goal.overflow_mul-bits
+unfolding row_bytes entry_count strips strips_per_plane
+overflow_mul-bits c =
+    omega (arith, few (goal.at.overflow_mul-bits c).After-outside-strips_outside)
+
+pub overflow_add-bits : goal.overflow_add-bits
+unfolding row_bytes entry_count strips strips_per_plane
+overflow_add-bits c =
+    omega (arith, few (goal.at.overflow_add-bits c).After-outside-strips_outside)
 
 pub overflow_mul-offsets : goal.overflow_mul-offsets
 unfolding row_bytes entry_count strips strips_per_plane

@@ -18,15 +18,12 @@ overflow_add-p c =
 
 pub put_short-requires : goal.put_short-requires
 put_short-requires c =
-    let so_far : let args = c.args in Wrote (front args.f args.p.each) args.p.bits (2 * c.loop-j.j) args.out.now c.loop-j.out = c.loop-j.invariant.1 c.args.f c.requires.0 c.requires.1 in
+    let so_far : let args = c.args in Wrote (front args.f args.p.each) args.p.bits (2 * c.loop-j.j) args.out.now c.loop-j.out = c.loop-j.invariant c.args.f c.requires.0 c.requires.1 in
     let planned = c.requires.1 in omega (arith, laid planned, planned.room, c.loop-j-test.true, length-wrote so_far)
 
 pub loop-j-preserved : goal.loop-j-preserved
-loop-j-preserved c =
+loop-j-preserved c = λ f d h.
     let p = c.args.p in
-    let j = c.loop-j.j in (
-      omega (arith, c.loop-j-test.true),
-      λ f d h.
-          let k = laid h in
-          number-wrote 2 j (c.loop-j.invariant.1 f d h) (holds_at (omega arith) (holds_bit f p.each j (omega (arith, c.loop-j-test.true)))) d c.put_short.ensures,
-    )
+    let j = c.loop-j.j in
+    let k = laid h in
+    number-wrote 2 j (c.loop-j.invariant f d h) (holds_at (omega arith) (holds_bit f p.each j (omega (arith, c.loop-j-test.true)))) d c.put_short.ensures

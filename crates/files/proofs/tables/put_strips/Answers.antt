@@ -3,24 +3,25 @@ use Prim.Native.Nat.{◌+◌, ◌*◌, ◌≤◌}
 use native.Mathlib.Omega.{arith}
 use Rattle.files.specs.File.{strips}
 use Rattle.files.proofs.Sizes.{strip-limit, strip_small, file_small, outside-within}
+use Rattle.files.specs.Parts.{is_places}
 use Rattle.files.proofs.Stripping.{Stripped, stripped_none, inside, bytes_are, stripped_on}
 use Rattle.files.proofs.Writing.{laid, length-wrote}
 use Rattle.files.proofs.tables.put_strips.Goals.{At-loop-k}
 use Rattle.files.proofs.tables.put_strips.Goals as goal
 
 -- the table's end
-within : (c : At-loop-k) → let p = c.args.p in c.choose-at.result + 4 * p.strips_outside ≤ p.resolutions
+within : (c : At-loop-k) → let p = c.args.p in c.begin-at.result + 4 * p.strips_outside ≤ p.resolutions
 within c =
-    inside c.requires c.args.places c.choose-at.ensures
+    inside c.requires (is_places c.args.table) c.begin-at.ensures
 
 -- what is written so far
-so_far : (c : At-loop-k) → let args = c.args in Stripped args.f args.p c.choose-at.result c.loop-k.k c.loop-k.place c.loop-k.left args.out.now c.loop-k.out
+so_far : (c : At-loop-k) → let args = c.args in Stripped args.f args.p c.begin-at.result c.loop-k.k c.loop-k.place c.loop-k.left args.out.now c.loop-k.out
 so_far c =
-    c.loop-k.invariant.1 c.args.f c.requires
+    c.loop-k.invariant c.args.f c.requires
 
 pub loop-k-init : goal.loop-k-init
 loop-k-init c =
-    (omega arith, λ f h. stripped_none h _)
+    λ f h. stripped_none h _
 
 pub strip_bytes-bytes-requires : goal.strip_bytes-bytes-requires
 strip_bytes-bytes-requires c =
@@ -47,7 +48,5 @@ overflow_add-place c =
     omega (arith, (so_far (goal.at.overflow_add-place c).At-loop-k).stands, bytes_are c.requires (so_far (goal.at.overflow_add-place c).At-loop-k) c.strip_bytes-bytes.ensures, strip_small f each c.requires.fit k (omega (arith, c.loop-k-test.true, outside-within 4 (strips f each), (laid c.requires).strips-outside)), file_small f each c.requires.fit)
 
 pub loop-k-preserved : goal.loop-k-preserved
-loop-k-preserved c = (
-  omega (arith, c.loop-k-test.true),
-  λ f h. stripped_on h (c.loop-k.invariant.1 f h) c.args.places c.choose-at.ensures c.loop-k-test.true c.strip_bytes-bytes.ensures c.choose.ensures c.put_long.ensures c.left_after-left.ensures,
-)
+loop-k-preserved c = λ f h.
+    stripped_on h (c.loop-k.invariant f h) (is_places c.args.table) c.begin-at.ensures c.loop-k-test.true c.strip_bytes-bytes.ensures c.number.ensures c.put_long.ensures c.left_after-left.ensures
