@@ -102,27 +102,26 @@ module _ (l : RasterLayout) (s : Sound (record_faults l)) (narrow : eqb l.fields
             ∙ table_same (length old) _ _ (λ j h. ap (λ (m : List ℕ). 255 - get_or m j 0) p ∙ ap (λ (v : ℕ). 255 - v) (table_at (length old) f j h) ∙ sym (plane_byte j (omega arith) ∙ rw e))
 
 -- the loop over the planes
-pub record Planewise (l : RasterLayout) (picture old : List ℕ) (start c : ℕ) (out : List ℕ) : Type 0 where
-  pub start_is : start ≡ c * l.plane_len
+pub record Planewise (l : RasterLayout) (picture old : List ℕ) (c : ℕ) (out : List ℕ) : Type 0 where
   pub inside : c ≤ l.fields.ch
   pub same : length out ≡ length old
-  pub so_far : out ≡ filled start (written l picture) old
+  pub so_far : out ≡ filled (c * l.plane_len) (written l picture) old
 
-pub planes-none : (l : RasterLayout) (picture old : List ℕ) → Planewise l picture old 0 0 old
-planes-none l picture old = record { start_is = sym (zero-mul l.plane_len); inside = omega arith; same = refl; so_far = refl }
+pub planes-none : (l : RasterLayout) (picture old : List ℕ) → Planewise l picture old 0 old
+planes-none l picture old = record { inside = omega arith; same = refl; so_far = rw (zero-mul l.plane_len) }
 
-module _ {l : RasterLayout} {picture old : List ℕ} {start c : ℕ} {out : List ℕ} (fits : Apart l picture old) (is : Planewise l picture old start c out) where
+module _ {l : RasterLayout} {picture old : List ℕ} {c : ℕ} {out : List ℕ} (fits : Apart l picture old) (is : Planewise l picture old c out) where
   scratch : l.scratch_len ≡ l.fields.ch * l.plane_len
   scratch = (plane_is l fits.served.sound (plain l fits.served.sound fits.served.narrow fits.apart) (separated l fits.served.sound fits.served.narrow fits.apart).0).1
 
   module _ (more : c < l.fields.ch) where
-    pub plane_room : (start + l.plane_len ≤ length old) × (start + l.plane_len ≤ byte_limit)
+    pub plane_room : (c * l.plane_len + l.plane_len ≤ length old) × (c * l.plane_len + l.plane_len ≤ byte_limit)
     plane_room =
         let upto : (c + 1) * l.plane_len ≤ l.fields.ch * l.plane_len = mul-le-mul_right l.plane_len (omega arith) in
-        let end : start + l.plane_len ≤ l.scratch_len = omega (arith, is.start_is, add-mul c 1 l.plane_len, one-mul l.plane_len, scratch) in
+        let end : c * l.plane_len + l.plane_len ≤ l.scratch_len = omega (arith, add-mul c 1 l.plane_len, one-mul l.plane_len, scratch) in
         (omega (arith, fits.served.room), omega (arith, scratch_limited l fits.served.sound))
 
-    pub plane_fits : (k : ℕ) → k < l.fields.ch → PlaneOf l picture k (part start (start + l.plane_len) out)
+    pub plane_fits : (k : ℕ) → k < l.fields.ch → PlaneOf l picture k (part (c * l.plane_len) (c * l.plane_len + l.plane_len) out)
     plane_fits k channel =
         record {
           sound = fits.served.sound;
@@ -130,23 +129,20 @@ module _ {l : RasterLayout} {picture old : List ℕ} {start c : ℕ} {out : List
           all = fits.served.all;
           apart = fits.apart;
           channel = channel;
-          room = length_part start (start + l.plane_len) out (omega arith) (omega (arith, plane_room.0, is.same)) ∙ omega arith;
+          room = length_part (c * l.plane_len) (c * l.plane_len + l.plane_len) out (omega arith) (omega (arith, plane_room.0, is.same)) ∙ omega arith;
         }
 
-    pub plane_next : (new : List ℕ) → PlaneWritten l picture c (part start (start + l.plane_len) out) new → Planewise l picture old (start + l.plane_len) (c + 1) (take start out ++ (new ++ drop (start + l.plane_len - start) (drop start out)))
+    pub plane_next : (new : List ℕ) → PlaneWritten l picture c (part (c * l.plane_len) (c * l.plane_len + l.plane_len) out) new → Planewise l picture old (c + 1) (take (c * l.plane_len) out ++ (new ++ drop (c * l.plane_len + l.plane_len - c * l.plane_len) (drop (c * l.plane_len) out)))
     plane_next new p =
+        let start = c * l.plane_len in
         let long : length (part start (start + l.plane_len) out) ≡ start + l.plane_len - start = (plane_fits c more).room ∙ omega arith in
-        let all : new ≡ table (start + l.plane_len - start) (λ k. written l picture (start + k)) = p ∙ rw (long, is.start_is) in
-        let now = part_filled (written l picture) start (start + l.plane_len) old out new (omega arith) is.so_far all in
-        record {
-          start_is = omega (arith, is.start_is, add-mul c 1 l.plane_len, one-mul l.plane_len);
-          inside = omega arith;
-          same = ap length now ∙ length-filled (start + l.plane_len) (written l picture) old plane_room.0;
-          so_far = now;
-        }
+        let all : new ≡ table (start + l.plane_len - start) (λ k. written l picture (start + k)) = p ∙ rw long in
+        let next : start + l.plane_len ≡ (c + 1) * l.plane_len = omega (arith, add-mul c 1 l.plane_len, one-mul l.plane_len) in
+        let now = part_filled (written l picture) start (start + l.plane_len) old out new (omega arith) is.so_far all ∙ ap (λ (n : ℕ). filled n (written l picture) old) next in
+        record { inside = omega arith; same = ap length now ∙ length-filled ((c + 1) * l.plane_len) (written l picture) old (omega (arith, plane_room.0)); so_far = now }
 
   pub planes_ended : l.fields.ch ≤ c → WrittenInto l picture old out
   planes_ended end =
       let all : c ≡ l.fields.ch = omega (arith, is.inside) in
-      let whole : start ≡ l.scratch_len = is.start_is ∙ ap (λ (n : ℕ). n * l.plane_len) all ∙ sym scratch in
+      let whole : c * l.plane_len ≡ l.scratch_len = ap (λ (n : ℕ). n * l.plane_len) all ∙ sym scratch in
       rw whole at is.so_far

@@ -203,60 +203,53 @@ module _ {l : RasterLayout} {row old : List ℕ} (fits : RowGiven l row old) whe
     row_plain new p = p ∙ table_same (length old) _ _ (λ j h. sym (not_picked _ _ (ne_eqb l.fields.slots 8 n)))
 
 -- the loop over the rows
-pub record WrittenRows (l : RasterLayout) (picture old : List ℕ) (from at y : ℕ) (out : List ℕ) : Type 0 where
-  pub from_is : from ≡ y * row_bytes l
-  pub at-is : at ≡ y * plane_row l
+pub record WrittenRows (l : RasterLayout) (picture old : List ℕ) (y : ℕ) (out : List ℕ) : Type 0 where
   pub inside : y ≤ l.fields.h
   pub same : length out ≡ length old
-  pub so_far : out ≡ filled at (written l picture) old
+  pub so_far : out ≡ filled (y * plane_row l) (written l picture) old
 
-pub written_none : (l : RasterLayout) (picture old : List ℕ) → WrittenRows l picture old 0 0 0 old
-written_none l picture old =
-    record { from_is = sym (zero-mul (row_bytes l)); at-is = sym (zero-mul (plane_row l)); inside = omega arith; same = refl; so_far = refl }
+pub written_none : (l : RasterLayout) (picture old : List ℕ) → WrittenRows l picture old 0 old
+written_none l picture old = record { inside = omega arith; same = refl; so_far = rw (zero-mul (plane_row l)) }
 
-module _ {l : RasterLayout} {picture old : List ℕ} {from at y : ℕ} {out : List ℕ} (fits : Together l picture old) (is : WrittenRows l picture old from at y out) where
+module _ {l : RasterLayout} {picture old : List ℕ} {y : ℕ} {out : List ℕ} (fits : Together l picture old) (is : WrittenRows l picture old y out) where
   scratch : l.scratch_len ≡ l.fields.h * plane_row l
   scratch = scratch_rows l fits.served.sound fits.served.bare fits.together
 
   module _ (more : y < l.fields.h) where
-    pub written-room : (from + row_bytes l ≤ length picture) × ((at + plane_row l ≤ length old) × (at + plane_row l ≤ byte_limit))
+    pub written-room : (y * row_bytes l + row_bytes l ≤ length picture) × ((y * plane_row l + plane_row l ≤ length old) × (y * plane_row l + plane_row l ≤ byte_limit))
     written-room =
         let served = fits.served in
         let read : (y + 1) * row_bytes l ≤ l.fields.h * row_bytes l = mul-le-mul_right (row_bytes l) (omega arith) in
         let wrote : (y + 1) * plane_row l ≤ l.fields.h * plane_row l = mul-le-mul_right (plane_row l) (omega arith) in
-        let end : at + plane_row l ≤ l.scratch_len = omega (arith, is.at-is, add-mul y 1 (plane_row l), one-mul (plane_row l), scratch) in
-        (omega (arith, is.from_is, add-mul y 1 (row_bytes l), one-mul (row_bytes l), output_rows l served.sound, served.all), (omega (arith, served.room), omega (arith, scratch_limited l served.sound)))
+        let end : y * plane_row l + plane_row l ≤ l.scratch_len = omega (arith, add-mul y 1 (plane_row l), one-mul (plane_row l), scratch) in
+        (omega (arith, add-mul y 1 (row_bytes l), one-mul (row_bytes l), output_rows l served.sound, served.all), (omega (arith, served.room), omega (arith, scratch_limited l served.sound)))
 
-    pub row_fits : RowGiven l (part from (from + row_bytes l) picture) (part at (at + plane_row l) out)
+    pub row_fits : RowGiven l (part (y * row_bytes l) (y * row_bytes l + row_bytes l) picture) (part (y * plane_row l) (y * plane_row l + plane_row l) out)
     row_fits =
         record {
           sound = fits.served.sound;
           bare = fits.served.bare;
           narrow = fits.served.narrow;
           together = fits.together;
-          all = length_part from (from + row_bytes l) picture (omega arith) written-room.0 ∙ omega arith;
-          room = length_part at (at + plane_row l) out (omega arith) (omega (arith, written-room, is.same)) ∙ omega arith;
+          all = length_part (y * row_bytes l) (y * row_bytes l + row_bytes l) picture (omega arith) written-room.0 ∙ omega arith;
+          room = length_part (y * plane_row l) (y * plane_row l + plane_row l) out (omega arith) (omega (arith, written-room, is.same)) ∙ omega arith;
         }
 
-    pub written_next : (new : List ℕ) → RowWritten l (part from (from + row_bytes l) picture) (part at (at + plane_row l) out) new → WrittenRows l picture old (from + row_bytes l) (at + plane_row l) (y + 1) (take at out ++ (new ++ drop (at + plane_row l - at) (drop at out)))
+    pub written_next : (new : List ℕ) → RowWritten l (part (y * row_bytes l) (y * row_bytes l + row_bytes l) picture) (part (y * plane_row l) (y * plane_row l + plane_row l) out) new → WrittenRows l picture old (y + 1) (take (y * plane_row l) out ++ (new ++ drop (y * plane_row l + plane_row l - y * plane_row l) (drop (y * plane_row l) out)))
     written_next new p =
+        let at = y * plane_row l in
+        let from = y * row_bytes l in
         let long : length (part at (at + plane_row l) out) ≡ at + plane_row l - at = row_fits.room ∙ omega arith in
-        let inside : y * row_bytes l + row_bytes l ≤ length picture = omega (arith, written-room, is.from_is) in
         let each : (j : ℕ) → j < at + plane_row l - at → row_at l (part from (from + row_bytes l) picture) j ≡ written l picture (at + j) =
-        λ j h. rw (is.from_is, is.at-is) (row_byte l fits.served.sound fits.served.bare fits.together fits.served.narrow picture y inside j (omega arith)) in
+        λ j h. row_byte l fits.served.sound fits.served.bare fits.together fits.served.narrow picture y written-room.0 j (omega arith) in
         let all : new ≡ table (at + plane_row l - at) (λ k. written l picture (at + k)) =
         p ∙ ap (λ (n : ℕ). table n (row_at l (part from (from + row_bytes l) picture))) long ∙ table_same (at + plane_row l - at) _ _ each in
-        let now = part_filled (written l picture) at (at + plane_row l) old out new (omega arith) is.so_far all in
-        record {
-          from_is = omega (arith, is.from_is, add-mul y 1 (row_bytes l), one-mul (row_bytes l));
-          at-is = omega (arith, is.at-is, add-mul y 1 (plane_row l), one-mul (plane_row l));
-          inside = omega arith;
-          same = ap length now ∙ length-filled (at + plane_row l) (written l picture) old written-room.1.0;
-          so_far = now;
-        }
+        let next : at + plane_row l ≡ (y + 1) * plane_row l = omega (arith, add-mul y 1 (plane_row l), one-mul (plane_row l)) in
+        let now = part_filled (written l picture) at (at + plane_row l) old out new (omega arith) is.so_far all ∙ ap (λ (n : ℕ). filled n (written l picture) old) next in
+        record { inside = omega arith; same = ap length now ∙ length-filled ((y + 1) * plane_row l) (written l picture) old (omega (arith, written-room)); so_far = now }
 
   pub written_all : l.fields.h ≤ y → WrittenInto l picture old out
   written_all end =
       let all : y ≡ l.fields.h = omega (arith, is.inside) in
-      let whole : at ≡ l.scratch_len = is.at-is ∙ ap (λ (n : ℕ). n * plane_row l) all ∙ sym scratch in
+      let whole : y * plane_row l ≡ l.scratch_len = ap (λ (n : ℕ). n * plane_row l) all ∙ sym scratch in
       rw whole at is.so_far

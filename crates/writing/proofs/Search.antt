@@ -1,51 +1,36 @@
--- The search for a byte that is neither 0 nor 255: what is found of the bytes passed, and of all when it ends. Assumes nothing.
-use Prim.Native.Nat.{ℕ, ◌+◌, ◌*◌, ◌≤◌, ◌<◌}
+-- The look for a byte that is neither 0 nor 255, from the front on. Assumes nothing.
+use Prim.Native.Nat.{ℕ, zero, suc, ◌<◌}
 use mathlib.Core.Path.{◌≡◌, refl, sym, ap, ◌∙◌}
-use mathlib.Core.Bool.{Bool, true, false, ◌||◌}
-use mathlib.Core.List.{List}
-use native.Mathlib.Numerals.{add-one}
-use native.Mathlib.Nat.{add-mul, one-mul}
+use mathlib.Core.Bool.{Bool, true, false, ◌&&◌, ◌||◌}
+use mathlib.Core.List.{List, [], ◌∷◌}
 use native.Mathlib.Omega.{arith}
-use lib.ListN.{get_or}
+use Rattle.std.specs.List.{list_all}
+use lib.ListN.{length, get_or}
 use lib.Dec.{eqb}
-use Rattle.laws.proofs.Groups.{grouped}
 use Rattle.pixels.specs.Planes.{two_levels}
-use Rattle.laws.proofs.Says.{one_fails}
 
 -- one of the two levels
-abbrev level : ℕ → Bool
+abbrev pub level : ℕ → Bool
 level v = eqb v 0 || eqb v 255
 
--- the bytes before column x of row y, all of them 0 or 255
-pub record Passed (picture : List ℕ) (w y x : ℕ) (sound : Bool) (at : ℕ) : Type 0 where
-  pub nothing : sound ≡ true
-  pub at-is : at ≡ y * w + x
-  pub column : x ≤ w
-  pub levels : two_levels at picture ≡ true
+and_true : (b : Bool) → (b && true) ≡ b
+and_true true = refl
+and_true false = refl
 
-module _ {picture : List ℕ} {w y x : ℕ} {sound : Bool} {at : ℕ} (is : Passed picture w y x sound at) where
-  -- a byte of the picture
-  pub byte_inside : (h : ℕ) → y < h → x < w → at < h * w
-  byte_inside h row column = rw is.at-is (grouped row column)
+regrouped : (a b c : Bool) → (a && b && c) ≡ (a && (b && c))
+regrouped true b c = refl
+regrouped false b c = refl
 
-  pub level_passed : x < w → level (get_or picture at 0) ≡ true → Passed picture w y (x + 1) sound (at + 1)
-  level_passed more e =
-      record {
-        nothing = is.nothing;
-        at-is = omega (arith, is.at-is);
-        column = omega arith;
-        levels = rw (add-one at, is.levels) e;
-      }
+-- a byte before the others
+levels_after : (n x : ℕ) (xs : List ℕ) → two_levels (suc n) (x ∷ xs) ≡ (level x && two_levels n xs)
+levels_after zero x xs = sym (and_true (level x))
+levels_after (suc n) x xs = ap (λ (b : Bool). b && level (get_or xs n 0)) (levels_after n x xs) ∙ regrouped (level x) (two_levels n xs) (level (get_or xs n 0))
 
-  pub row-passed : w ≤ x → Passed picture w (y + 1) 0 sound at
-  row-passed end =
-      record { nothing = is.nothing; at-is = omega (arith, is.at-is, is.column, add-mul y 1 w, one-mul w); column = omega arith; levels = is.levels }
+pub levels_all_are : (xs : List ℕ) → list_all level xs ≡ two_levels (length xs) xs
+levels_all_are [] = refl
+levels_all_are (x ∷ xs) = ap (λ (b : Bool). level x && b) (levels_all_are xs) ∙ sym (levels_after (length xs) x xs)
 
--- every row passed
-pub rows-passed : {picture : List ℕ} {w y : ℕ} {sound : Bool} {at : ℕ} → Passed picture w y 0 sound at → (h : ℕ) → y ≡ h → sound ≡ two_levels (h * w) picture
-rows-passed {picture} {w} {y} {sound} {at} is h e =
-    let all : at ≡ h * w = omega (arith, is.at-is, ap (λ (n : ℕ). n * w) e) in is.nothing ∙ sym (rw all at is.levels)
-
--- a byte that is neither, and what is said of all bytes
-pub level_missed : (n : ℕ) (picture : List ℕ) (k : ℕ) → k < n → level (get_or picture k 0) ≡ false → two_levels n picture ≡ false
-level_missed n picture k h e = one_fails (λ m. two_levels m picture) (λ m. level (get_or picture m 0)) (λ m. refl) n k h e
+-- it looks at the first bytes alone
+pub levels_same : (n : ℕ) (xs ys : List ℕ) → ((k : ℕ) → k < n → get_or xs k 0 ≡ get_or ys k 0) → two_levels n xs ≡ two_levels n ys
+levels_same zero xs ys e = refl
+levels_same (suc n) xs ys e = rw (e n (omega arith), levels_same n xs ys (λ k h. e k (omega arith)))

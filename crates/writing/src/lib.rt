@@ -11,7 +11,7 @@ ghost use Rattle.layout.specs.Layout.{record_faults};
 ghost use Rattle.pixels.specs.Planes.{plane_faults, write_faults, Written};
 ghost use Rattle.writing.specs.Parts.{planar as planarOf, WriteServed, WrittenInto};
 
-use answer::{Refusal, fault, first_of};
+use answer::{Refusal, fault};
 use layout::RasterLayout;
 
 // What is refused of a record without a fault, in rule 7.3's order. The bytes of a picture are looked at last, and only if all of them are there.
@@ -19,15 +19,11 @@ fn check_planes(l: RasterLayout, picture: &[u8], planes: &[u8]) -> Result<(), Re
     requires { Sound (record_faults l) }
     ensures { Step (plane_faults l picture.now planes.now) result }
 {
-    let map = fault(l.fields.palette, Refusal::Unsupported);
-    let wide = fault(l.fields.bytes == 8, Refusal::Unsupported);
-    let multiplied = fault(l.fields.alpha == 1, Refusal::Unsupported);
-    let short = fault(picture.len() < l.output_len, Refusal::Truncated);
-    let room = fault(planes.len() < l.scratch_len, Refusal::OutputTooSmall);
-    first_of(
-        map,
-        first_of(wide, first_of(multiplied, first_of(short, room))),
-    )?;
+    fault(l.fields.palette, Refusal::Unsupported)?;
+    fault(l.fields.bytes == 8, Refusal::Unsupported)?;
+    fault(l.fields.alpha == 1, Refusal::Unsupported)?;
+    fault(picture.len() < l.output_len, Refusal::Truncated)?;
+    fault(planes.len() < l.scratch_len, Refusal::OutputTooSmall)?;
     levels::check_levels(l, picture)
 }
 
@@ -43,7 +39,7 @@ fn check_write(l: RasterLayout, picture: &[u8], planes: &[u8]) -> Result<(), Ref
 fn is_planar(l: RasterLayout) -> bool
     ensures { result ≡ planarOf l }
 {
-    l.fields.separate & (l.fields.slots != 8)
+    l.fields.separate && l.fields.slots != 8
 }
 
 // What is not refused, written.

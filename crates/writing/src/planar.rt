@@ -6,33 +6,22 @@ ghost use Rattle.writing.specs.Parts.{ChannelFits, ChannelInto, PlaneOf, PlaneWr
 
 use layout::RasterLayout;
 
-// One channel of every pixel: a byte of each.
-fn channel1(picture: &[u8], first: usize, stride: usize, le: bool, out: &mut [u8])
-    requires { ChannelFits picture.now first stride 1 out.old }
-    ensures { ChannelInto picture.now first stride 1 le out.old out.new }
+// One channel of every pixel, of this many bytes.
+fn channel_of<const BYTES: usize>(
+    picture: &[u8],
+    first: usize,
+    stride: usize,
+    le: bool,
+    out: &mut [u8],
+)
+    requires { ChannelFits picture.now first stride BYTES out.old × OneOrTwo BYTES }
+    ensures { ChannelInto picture.now first stride BYTES le out.old out.new }
 {
-    let mut from = first;
-    let mut at: usize = 0;
-    while at < out.len() {
-        out[at] = picture[from];
-        from += stride;
-        at += 1;
-    }
-}
-
-// The same of two bytes, of which the picture has the more significant one first.
-fn channel2(picture: &[u8], first: usize, stride: usize, le: bool, out: &mut [u8])
-    requires { ChannelFits picture.now first stride 2 out.old }
-    ensures { ChannelInto picture.now first stride 2 le out.old out.new }
-{
-    let high = pixels::high(le);
-    let mut from = first;
-    let mut at: usize = 0;
-    while at < out.len() {
-        out[at] = picture[from + high];
-        out[at + 1] = picture[from + (1 - high)];
-        from += stride;
-        at += 2;
+    for p in 0..out.len() / BYTES {
+        let word = pixels::word::<BYTES>(picture, first + p * stride, le);
+        let at = p * BYTES;
+        let end = at + BYTES;
+        out[at..end].copy_from_slice(&word);
     }
 }
 
@@ -41,9 +30,9 @@ fn channel(picture: &[u8], first: usize, stride: usize, bytes: usize, le: bool, 
     ensures { ChannelInto picture.now first stride bytes le out.old out.new }
 {
     if bytes == 2 {
-        channel2(picture, first, stride, le, out);
+        channel_of::<2>(picture, first, stride, le, out);
     } else {
-        channel1(picture, first, stride, le, out);
+        channel_of::<1>(picture, first, stride, le, out);
     }
 }
 
@@ -52,7 +41,7 @@ fn flips_channel(l: RasterLayout, c: usize) -> bool
     requires { c < l.fields.ch }
     ensures { result ≡ flips_channel l c }
 {
-    l.fields.white & ((l.fields.alpha == 0) | (c != l.fields.ch - 1))
+    l.fields.white && (l.fields.alpha == 0 || c != l.fields.ch - 1)
 }
 
 // The plane of channel c.
@@ -78,12 +67,9 @@ pub(crate) fn write_apart(l: RasterLayout, picture: &[u8], planes: &mut [u8])
     requires { Apart l picture.now planes.old }
     ensures { WrittenInto l picture.now planes.old planes.new }
 {
-    let mut start: usize = 0;
-    let mut c: usize = 0;
-    while c < l.fields.ch {
+    for c in 0..l.fields.ch {
+        let start = c * l.plane_len;
         let end = start + l.plane_len;
         write_plane(l, picture, c, &mut planes[start..end]);
-        start = end;
-        c += 1;
     }
 }

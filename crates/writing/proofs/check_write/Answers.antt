@@ -1,6 +1,7 @@
 -- `writing::check_write` meets its contract: the record's refusal, then the others. Assumes nothing.
 use Rattle.answer.specs.Outcome.{Step}
-use Rattle.answer.proofs.Promised.{step-sound, step-refused, step-on}
+use Rattle.answer.proofs.Promised.{step-sound, step-on}
+use Rattle.answer.proofs.Handed.{step-handed}
 use Rattle.layout.specs.Layout.{record_faults}
 use Rattle.pixels.specs.Planes.{plane_faults}
 use Rattle.writing.proofs.check_write.Goals.{After-check_record}
@@ -13,13 +14,13 @@ recorded c =
 
 pub check_planes-requires : goal.check_planes-requires
 check_planes-requires c =
-    step-sound (recorded (goal.at.check_planes-requires c).After-check_record) c.in-Done.is
+    step-sound (recorded (goal.at.check_planes-requires c).After-check_record) c.in_ok-check_record.was
 
-pub returns-in-Refused : goal.returns-in-Refused
-returns-in-Refused c =
+pub returns-in_err-check_record : goal.returns-in_err-check_record
+returns-in_err-check_record c =
     let args = c.args in
-    step-refused (plane_faults args.l args.picture.now args.planes.now) (recorded (goal.at.returns-in-Refused c).After-check_record) c.in-Refused.is
+    step-handed (plane_faults args.l args.picture.now args.planes.now) (recorded (goal.at.returns-in_err-check_record c).After-check_record) c.in_err-check_record.was c.from_residual.ensures
 
-pub returns-in-Done : goal.returns-in-Done
-returns-in-Done c =
-    step-on (recorded (goal.at.returns-in-Done c).After-check_record) c.in-Done.is c.check_planes.ensures
+pub returns : goal.returns
+returns c =
+    step-on (recorded (goal.at.returns c).After-check_record) c.in_ok-check_record.was c.check_planes.ensures

@@ -1,20 +1,20 @@
--- `writing::levels::check_levels` meets its contract: a bilevel picture has h rows of w bytes. Assumes nothing.
+-- `writing::levels::check_levels` meets its contract: the bytes of the picture alone are looked at. Assumes nothing.
 use borrow.Author.Tests.{eq-eqb}
 use native.Mathlib.Omega.{arith}
-use mathlib.Core.Path.{◌≡◌}
-use Prim.Native.Nat.{◌*◌}
-use Rattle.pixels.proofs.Undo.{bilevel_output}
-use Rattle.writing.proofs.levels.check_levels.Goals.{Else-l-ne8}
+use mathlib.Core.Path.{◌≡◌, ap, ◌∙◌}
+use Prim.Native.Nat.{ℕ}
+use lib.ListN.{length, take, length-take}
+use lib.Seq.{get_or-take}
+use Rattle.pixels.specs.Planes.{two_levels}
+use Rattle.writing.proofs.Search.{levels_same}
 use Rattle.writing.proofs.levels.check_levels.Goals as goal
-
-rows : (c : Else-l-ne8) → let l = c.args.l in l.output_len ≡ l.fields.h * l.fields.w
-rows c =
-    let pre = c.requires in bilevel_output c.args.l pre.sound pre.bare c.if-l-ne8.false
-
-pub two_levels-requires : goal.two_levels-requires
-two_levels-requires c =
-    omega (arith, rows (goal.at.two_levels-requires c).Else-l-ne8, c.requires.all)
 
 pub returns : goal.returns
 returns c =
-    let l = c.args.l in rw (eq-eqb l.fields.slots 8 c.if-l-ne8.false, rows (goal.at.returns c).Else-l-ne8, ← c.two_levels.ensures) c.fault.ensures
+    let l = c.args.l in
+    let picture = c.args.picture.now in
+    let bytes = take l.output_len picture in
+    let long : length bytes ≡ l.output_len = length-take l.output_len picture ∙ omega (arith, c.requires.all) in
+    let front : two_levels (length bytes) bytes ≡ two_levels l.output_len picture = ap (λ (n : ℕ). two_levels n bytes) long ∙ levels_same l.output_len bytes picture (λ k h. get_or-take l.output_len picture k 0 h) in
+    let found : c.two_levels.result ≡ two_levels l.output_len picture = c.two_levels.ensures ∙ front in
+    rw (eq-eqb l.fields.slots 8 c.if-l-ne8.false, ← found) c.fault.ensures

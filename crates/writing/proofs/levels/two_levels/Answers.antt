@@ -1,10 +1,12 @@
--- `writing::levels::two_levels` meets its contract: the invariant and its laws are in proofs/Search.antt. Assumes nothing.
-use Prim.Native.Nat.{◌*◌, ◌<◌}
-use mathlib.Core.Path.{sym, ◌∙◌}
-use Rattle.writing.proofs.Search.{byte_inside, level_missed}
+-- `writing::levels::two_levels` meets its contract: the laws are in proofs/Search.antt. Assumes nothing.
+use Rattle.std.proofs.Common.{rules, tests}
+use mathlib.Core.Path.{◌∙◌}
+use Rattle.std.proofs.lemmas.Iterator.{YieldsList-from_slice}
+use Rattle.std.proofs.lemmas.Iterator.Search.{all_from_yields_List}
+use Rattle.writing.proofs.Search.{level, levels_all_are}
 use Rattle.writing.proofs.levels.two_levels.Goals as goal
 
-pub returns-then-not-is_level : goal.returns-then-not-is_level
-returns-then-not-is_level c =
-    let inside : c.loop-x.at < c.args.h * c.args.w = byte_inside c.loop-x.invariant c.args.h c.rows-test.true c.loop-x-test.true in
-    sym (level_missed _ _ _ inside (sym c.is_level.ensures ∙ c.if-not-is_level.true))
+pub returns : goal.returns
+returns c =
+    let bytes = c.args.bytes.now in
+    all_from_yields_List level _ _ c.all.result c.all.ensures.ran (YieldsList-from_slice bytes cc) (λ x b q k. search (rules, tests)) ∙ levels_all_are bytes

@@ -28,6 +28,14 @@ pub overflow_mul-wrote : goal.overflow_mul-wrote
 overflow_mul-wrote c =
     omega (arith, few (goal.at.overflow_mul-wrote c).Start)
 
+pub overflow_mul-from : goal.overflow_mul-from
+overflow_mul-from c =
+    record { fits = omega (arith, written-room c.requires c.loop-y.invariant (more (goal.at.overflow_mul-from c).In-loop-y), c.well_formed) }
+
+pub overflow_mul-at : goal.overflow_mul-at
+overflow_mul-at c =
+    record { fits = omega (arith, written-room c.requires c.loop-y.invariant (more (goal.at.overflow_mul-at c).In-loop-y)) }
+
 pub overflow_add-end : goal.overflow_add-end
 overflow_add-end c =
     omega (arith, written-room c.requires c.loop-y.invariant (more (goal.at.overflow_add-end c).In-loop-y), c.well_formed)

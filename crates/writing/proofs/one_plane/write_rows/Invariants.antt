@@ -1,10 +1,6 @@
 -- `writing::one_plane::write_rows` meets its contract: the invariant and its laws are in proofs/Rowwise.antt. Assumes nothing.
-use Prim.Native.Nat.{◌-◌}
 use Rattle.writing.proofs.Rowwise.{WrittenRows}
 use Rattle.writing.proofs.one_plane.write_rows.Given as goal
 
 abbrev pub invariant-loop-y : goal.invariant-loop-y
-invariant-loop-y l = WrittenRows l.l l.picture l.initial.planes l.from l.at l.y l.planes
-
-abbrev pub decreases-loop-y : goal.decreases-loop-y
-decreases-loop-y l = l.l.fields.h - l.y
+invariant-loop-y l = WrittenRows l.l l.picture l.initial.planes l.y l.planes

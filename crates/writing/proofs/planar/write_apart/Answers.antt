@@ -9,6 +9,10 @@ more : (c : In-loop-c) → c.loop-c.c < c.args.l.fields.ch
 more c =
     omega (arith, c.loop-c-test.true)
 
+pub overflow_mul-start : goal.overflow_mul-start
+overflow_mul-start c =
+    record { fits = omega (arith, plane_room c.requires c.loop-c.invariant (more (goal.at.overflow_mul-start c).In-loop-c)) }
+
 pub overflow_add-end : goal.overflow_add-end
 overflow_add-end c =
     omega (arith, plane_room c.requires c.loop-c.invariant (more (goal.at.overflow_add-end c).In-loop-c))

@@ -1,10 +1,6 @@
 -- `writing::planar::write_apart` meets its contract: the invariant and its laws are in proofs/Planewise.antt. Assumes nothing.
-use Prim.Native.Nat.{◌-◌}
 use Rattle.writing.proofs.Planewise.{Planewise}
 use Rattle.writing.proofs.planar.write_apart.Given as goal
 
 abbrev pub invariant-loop-c : goal.invariant-loop-c
-invariant-loop-c l = Planewise l.l l.picture l.initial.planes l.start l.c l.planes
-
-abbrev pub decreases-loop-c : goal.decreases-loop-c
-decreases-loop-c l = l.l.fields.ch - l.c
+invariant-loop-c l = Planewise l.l l.picture l.initial.planes l.c l.planes
