@@ -1,3 +1,4 @@
+pub mod Moduli
 pub mod Loops
 pub mod Summed
 pub mod Leading

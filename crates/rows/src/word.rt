@@ -167,42 +167,34 @@ pub(crate) fn put(out: &mut [u8], at: usize, width: usize, le: bool, v: u64)
     }
 }
 
+// The low bytes of any number, as a number.
+fn low(n: u64, width: usize) -> u64
+    requires { served width ≡ true }
+    ensures { result ≡ n % modulus width }
+{
+    if 3 < width {
+        if width == 4 { n % 4294967296 } else { n }
+    } else if width == 1 {
+        n % 256
+    } else if width == 2 {
+        n % 65536
+    } else {
+        n % 16777216
+    }
+}
+
 pub(crate) fn add(a: u64, b: u64, width: usize) -> u64
     requires { served width ≡ true }
     ensures { result ≡ plus width a b }
 {
-    if 3 < width {
-        if width == 4 {
-            std::num::wrapping_add_u64(a, b) % 4294967296
-        } else {
-            std::num::wrapping_add_u64(a, b)
-        }
-    } else if width == 1 {
-        std::num::wrapping_add_u64(a, b) % 256
-    } else if width == 2 {
-        std::num::wrapping_add_u64(a, b) % 65536
-    } else {
-        std::num::wrapping_add_u64(a, b) % 16777216
-    }
+    low(a.wrapping_add(b), width)
 }
 
 pub(crate) fn sub(a: u64, b: u64, width: usize) -> u64
     requires { (served width ≡ true) × (b < modulus width) }
     ensures { result ≡ minus width a b }
 {
-    if 3 < width {
-        if width == 4 {
-            std::num::wrapping_sub_u64(a, b) % 4294967296
-        } else {
-            std::num::wrapping_sub_u64(a, b)
-        }
-    } else if width == 1 {
-        std::num::wrapping_sub_u64(a, b) % 256
-    } else if width == 2 {
-        std::num::wrapping_sub_u64(a, b) % 65536
-    } else {
-        std::num::wrapping_sub_u64(a, b) % 16777216
-    }
+    low(a.wrapping_sub(b), width)
 }
 
 // The sample at a place: its word and the sum so far of its channel.

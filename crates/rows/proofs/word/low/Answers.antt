@@ -1,0 +1,14 @@
+-- `rows::word::low` meets its contract: a number of eight bytes is its own low bytes. Assumes nothing.
+use Rattle.std.proofs.Common.{◌≡◌, arith}
+use Rattle.words.proofs.Served.{served-wide, served-narrow}
+use Rattle.rows.proofs.word.low.Goals as goal
+
+pub returns-else-width-eq4 : goal.returns-else-width-eq4
+returns-else-width-eq4 c =
+    let eight : c.args.width ≡ 8 = served-wide _ c.requires c.if-width-gt3.true c.if-width-eq4.false in
+    rw eight (omega (arith, c.ranges.n.fits))
+
+pub returns-else-width-eq2 : goal.returns-else-width-eq2
+returns-else-width-eq2 c =
+    let three : c.args.width ≡ 3 = served-narrow _ c.requires c.if-width-gt3.false c.if-width-eq1.false c.if-width-eq2.false in
+    rw three (omega arith)
