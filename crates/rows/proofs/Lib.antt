@@ -1,4 +1,3 @@
-pub mod Moduli
 pub mod Loops
 pub mod Summed
 pub mod Leading

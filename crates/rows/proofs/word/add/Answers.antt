@@ -1,7 +1,14 @@
--- `rows::word::add` meets its contract: proofs/Moduli.antt. Assumes nothing.
-use Rattle.std.proofs.Common.{◌∙◌}
-use Rattle.rows.proofs.Moduli.{sum_low}
+-- `rows::word::add` meets its contract: a sum modulo 2^64 is, modulo 256^width, the sum. Assumes nothing.
+use Rattle.std.proofs.Common.{◌≡◌, arith}
+use Rattle.words.proofs.Served.{served-wide, served-narrow}
 use Rattle.rows.proofs.word.add.Goals as goal
 
-pub returns : goal.returns
-returns c = c.low.ensures ∙ sum_low c.args.a c.args.b c.args.width c.requires
+pub returns-else-width-eq4 : goal.returns-else-width-eq4
+returns-else-width-eq4 c =
+    let eight : c.args.width ≡ 8 = served-wide _ c.requires c.if-width-gt3.true c.if-width-eq4.false in
+    rw eight (omega arith)
+
+pub returns-else-width-eq2 : goal.returns-else-width-eq2
+returns-else-width-eq2 c =
+    let three : c.args.width ≡ 3 = served-narrow _ c.requires c.if-width-gt3.false c.if-width-eq1.false c.if-width-eq2.false in
+    rw three (omega arith)
