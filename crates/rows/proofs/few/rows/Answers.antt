@@ -15,4 +15,4 @@ slice_bounds-row-end c =
 pub loop-at-preserved : goal.loop-at-preserved
 loop-at-preserved c =
     let inv = c.loop-at.invariant in
-    row_turned c.requires.good c.requires.room inv (more (goal.at.loop-at-preserved c).In-loop-at) _ _ (row-resumed c.requires inv (more (goal.at.loop-at-preserved c).In-loop-at) c.args.le c.args.out_le) c.few.ensures
+    row_turned c.requires.good c.requires.room inv (more (goal.at.loop-at-preserved c).In-loop-at) _ _ (row-resumed c.requires inv (more (goal.at.loop-at-preserved c).In-loop-at) c.args.form.le c.args.form.out_le) c.few.ensures
