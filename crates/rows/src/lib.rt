@@ -4,6 +4,7 @@
 mod arms;
 mod differences;
 mod few;
+mod form;
 mod held;
 mod resume;
 mod steps;
@@ -15,6 +16,7 @@ ghost use Rattle.samples.specs.Sample.{strip};
 ghost use Rattle.rows.specs.Resume.{RowResumed};
 ghost use Rattle.rows.specs.Row.{RowServed, StripServed, RoomChecked, LeadFits, LedInto, one_row, TransformedInto, Transformed, RowTransformed};
 
+use crate::form::Form;
 use answer::Refusal;
 
 // The first words of a row, which stand for themselves.
@@ -29,74 +31,47 @@ fn lead(raw: &[u8], channels: usize, width: usize, le: bool, out_le: bool, out: 
 }
 
 // One row past every refusal.
-fn transform_words(
-    raw: &[u8],
-    channels: usize,
-    width: usize,
-    le: bool,
-    predict: bool,
-    out_le: bool,
-    forward: bool,
-    out: &mut [u8],
-)
-    requires { RowServed raw.now channels width out.old }
-    ensures { TransformedInto raw.now (one_row raw.now channels width) predict le out_le forward out.old out.new }
+fn transform_words(raw: &[u8], form: Form, predict: bool, forward: bool, out: &mut [u8])
+    requires { RowServed raw.now form.channels form.width out.old }
+    ensures { TransformedInto raw.now (one_row raw.now form.channels form.width) predict form.le form.out_le forward out.old out.new }
 {
     if predict {
-        if forward | (4 < channels) {
-            lead(raw, channels, width, le, out_le, out);
-            steps::steps(raw, channels, width, le, out_le, forward, out)
+        if forward | (4 < form.channels) {
+            lead(raw, form.channels, form.width, form.le, form.out_le, out);
+            steps::steps(raw, form, forward, out)
         } else {
             let none = [0u64; 4];
-            few::rows(raw, raw.len(), channels, width, le, out_le, &none, out)
+            few::rows(raw, raw.len(), form, &none, out)
         }
     } else {
-        let _ = samples::reorder(raw, width, le, out_le, out);
+        let _ = samples::reorder(raw, form.width, form.le, form.out_le, out);
     }
 }
 
 // Every row, with prediction: it begins anew in each.
-fn predicted_rows(
-    raw: &[u8],
-    row_bytes: usize,
-    channels: usize,
-    width: usize,
-    le: bool,
-    out_le: bool,
-    forward: bool,
-    out: &mut [u8],
-)
-    requires { StripServed raw.now (strip row_bytes channels width) out.old }
-    ensures { TransformedInto raw.now (strip row_bytes channels width) true le out_le forward out.old out.new }
+fn predicted_rows(raw: &[u8], row_bytes: usize, form: Form, forward: bool, out: &mut [u8])
+    requires { StripServed raw.now (strip row_bytes form.channels form.width) out.old }
+    ensures { TransformedInto raw.now (strip row_bytes form.channels form.width) true form.le form.out_le forward out.old out.new }
 {
     for n in 0..raw.len() / row_bytes {
         let at = n * row_bytes;
         let end = at + row_bytes;
         let row = &raw[at..end];
         let to = &mut out[at..end];
-        transform_words(row, channels, width, le, true, out_le, forward, to);
+        transform_words(row, form, true, forward, to);
     }
 }
 
 // Those of at most four channels, with prediction undone, in the loop over their own.
-fn every_row(
-    raw: &[u8],
-    row_bytes: usize,
-    channels: usize,
-    width: usize,
-    le: bool,
-    out_le: bool,
-    forward: bool,
-    out: &mut [u8],
-)
-    requires { StripServed raw.now (strip row_bytes channels width) out.old }
-    ensures { TransformedInto raw.now (strip row_bytes channels width) true le out_le forward out.old out.new }
+fn every_row(raw: &[u8], row_bytes: usize, form: Form, forward: bool, out: &mut [u8])
+    requires { StripServed raw.now (strip row_bytes form.channels form.width) out.old }
+    ensures { TransformedInto raw.now (strip row_bytes form.channels form.width) true form.le form.out_le forward out.old out.new }
 {
-    if forward | (4 < channels) {
-        return predicted_rows(raw, row_bytes, channels, width, le, out_le, forward, out);
+    if forward | (4 < form.channels) {
+        return predicted_rows(raw, row_bytes, form, forward, out);
     }
     let none = [0u64; 4];
-    few::rows(raw, row_bytes, channels, width, le, out_le, &none, out)
+    few::rows(raw, row_bytes, form, &none, out)
 }
 
 // The strip check, then the room.
@@ -132,7 +107,13 @@ pub fn transform_rows(
 {
     checked(raw.len(), row_bytes, channels, width, out.len())?;
     if predict {
-        every_row(raw, row_bytes, channels, width, le, out_le, forward, out);
+        let form = Form {
+            channels,
+            width,
+            le,
+            out_le,
+        };
+        every_row(raw, row_bytes, form, forward, out);
     } else {
         let _ = samples::reorder(raw, width, le, out_le, out);
     }
@@ -153,7 +134,13 @@ pub fn transform_row(
     ensures { RowTransformed raw.now channels width predict le out_le forward out.old result out.new }
 {
     checked(raw.len(), raw.len(), channels, width, out.len())?;
-    transform_words(raw, channels, width, le, predict, out_le, forward, out);
+    let form = Form {
+        channels,
+        width,
+        le,
+        out_le,
+    };
+    transform_words(raw, form, predict, forward, out);
     Ok(())
 }
 
@@ -196,10 +183,12 @@ pub fn resume_row(
     resume::run(
         raw,
         first,
-        channels,
-        width,
-        le,
-        out_le,
+        Form {
+            channels,
+            width,
+            le,
+            out_le,
+        },
         sums,
         &mut out[start..end],
     );

@@ -5,6 +5,7 @@ ghost use Rattle.answer.specs.Outcome.{pick};
 ghost use Rattle.words.specs.Promises.{served};
 ghost use Rattle.rows.specs.Resume.{leading, RunFits, RanInto, PixelsFit, LastFits, Held};
 
+use crate::form::Form;
 use crate::{few, word};
 
 fn following(channel: usize, channels: usize) -> usize
@@ -19,27 +20,18 @@ fn following(channel: usize, channels: usize) -> usize
 }
 
 // Word by word, from any channel.
-fn words(
-    raw: &[u8],
-    first: usize,
-    channels: usize,
-    width: usize,
-    le: bool,
-    out_le: bool,
-    sums: &mut [u64],
-    out: &mut [u8],
-)
-    requires { RunFits raw.now first channels width sums.old out.old }
-    ensures { RanInto raw.now first channels width le out_le sums.old sums.new out.new }
+fn words(raw: &[u8], first: usize, form: Form, sums: &mut [u64], out: &mut [u8])
+    requires { RunFits raw.now first form.channels form.width sums.old out.old }
+    ensures { RanInto raw.now first form.channels form.width form.le form.out_le sums.old sums.new out.new }
 {
     let mut channel = first;
     let mut at: usize = 0;
     while at < raw.len() {
-        let sample = word::sum(raw, at, width, le, sums[channel]);
+        let sample = word::sum(raw, at, form.width, form.le, sums[channel]);
         sums[channel] = sample;
-        word::put(out, at, width, out_le, sample);
-        at += width;
-        channel = following(channel, channels);
+        word::put(out, at, form.width, form.out_le, sample);
+        at += form.width;
+        channel = following(channel, form.channels);
     }
 }
 
@@ -54,69 +46,36 @@ fn held(out: &[u8], last: usize, channels: usize, width: usize, out_le: bool, su
 }
 
 // Whole pixels.
-fn pixels(
-    raw: &[u8],
-    channels: usize,
-    width: usize,
-    le: bool,
-    out_le: bool,
-    sums: &mut [u64],
-    out: &mut [u8],
-)
-    requires { PixelsFit raw.now channels width sums.old out.old }
-    ensures { RanInto raw.now 0 channels width le out_le sums.old sums.new out.new }
+fn pixels(raw: &[u8], form: Form, sums: &mut [u64], out: &mut [u8])
+    requires { PixelsFit raw.now form.channels form.width sums.old out.old }
+    ensures { RanInto raw.now 0 form.channels form.width form.le form.out_le sums.old sums.new out.new }
 {
     if raw.len() == 0 {
         return;
     }
-    if 4 < channels {
-        return words(raw, 0, channels, width, le, out_le, sums, out);
+    if 4 < form.channels {
+        return words(raw, 0, form, sums, out);
     }
-    few::rows(raw, raw.len(), channels, width, le, out_le, sums, out);
+    few::rows(raw, raw.len(), form, sums, out);
     held(
         out,
-        raw.len() - channels * width,
-        channels,
-        width,
-        out_le,
+        raw.len() - form.channels * form.width,
+        form.channels,
+        form.width,
+        form.out_le,
         sums,
     )
 }
 
 // Words from a pixel's start on.
-fn from_pixel(
-    raw: &[u8],
-    channels: usize,
-    width: usize,
-    le: bool,
-    out_le: bool,
-    sums: &mut [u64],
-    out: &mut [u8],
-)
-    requires { RunFits raw.now 0 channels width sums.old out.old }
-    ensures { RanInto raw.now 0 channels width le out_le sums.old sums.new out.new }
+fn from_pixel(raw: &[u8], form: Form, sums: &mut [u64], out: &mut [u8])
+    requires { RunFits raw.now 0 form.channels form.width sums.old out.old }
+    ensures { RanInto raw.now 0 form.channels form.width form.le form.out_le sums.old sums.new out.new }
 {
     let start: usize = 0;
-    let whole = raw.len() - raw.len() % (channels * width);
-    pixels(
-        &raw[start..whole],
-        channels,
-        width,
-        le,
-        out_le,
-        sums,
-        &mut out[start..whole],
-    );
-    words(
-        &raw[whole..],
-        0,
-        channels,
-        width,
-        le,
-        out_le,
-        sums,
-        &mut out[whole..],
-    )
+    let whole = raw.len() - raw.len() % (form.channels * form.width);
+    pixels(&raw[start..whole], form, sums, &mut out[start..whole]);
+    words(&raw[whole..], 0, form, sums, &mut out[whole..])
 }
 
 // The bytes of so many that stand before a pixel's start.
@@ -132,38 +91,12 @@ fn leading(n: usize, first: usize, channels: usize, width: usize) -> usize
 }
 
 // Words from any channel on.
-pub(crate) fn run(
-    raw: &[u8],
-    first: usize,
-    channels: usize,
-    width: usize,
-    le: bool,
-    out_le: bool,
-    sums: &mut [u64],
-    out: &mut [u8],
-)
-    requires { RunFits raw.now first channels width sums.old out.old }
-    ensures { RanInto raw.now first channels width le out_le sums.old sums.new out.new }
+pub(crate) fn run(raw: &[u8], first: usize, form: Form, sums: &mut [u64], out: &mut [u8])
+    requires { RunFits raw.now first form.channels form.width sums.old out.old }
+    ensures { RanInto raw.now first form.channels form.width form.le form.out_le sums.old sums.new out.new }
 {
     let start: usize = 0;
-    let lead = leading(raw.len(), first, channels, width);
-    words(
-        &raw[start..lead],
-        first,
-        channels,
-        width,
-        le,
-        out_le,
-        sums,
-        &mut out[start..lead],
-    );
-    from_pixel(
-        &raw[lead..],
-        channels,
-        width,
-        le,
-        out_le,
-        sums,
-        &mut out[lead..],
-    )
+    let lead = leading(raw.len(), first, form.channels, form.width);
+    words(&raw[start..lead], first, form, sums, &mut out[start..lead]);
+    from_pixel(&raw[lead..], form, sums, &mut out[lead..])
 }

@@ -7,7 +7,7 @@ use Rattle.rows.proofs.Rows.{row_begins, part_served, row-meant, row_turned, row
 use Rattle.rows.proofs.predicted_rows.Goals.{Start}
 use Rattle.rows.proofs.predicted_rows.Goals as goal
 
-good : (c : Start) → let args = c.args in Good (length args.raw.now) (strip args.row_bytes args.channels args.width)
+good : (c : Start) → let args = c.args in Good (length args.raw.now) (strip args.row_bytes args.form.channels args.form.width)
 good c =
     good_checked _ _ c.requires.sound
 
@@ -23,7 +23,7 @@ loop-n-preserved c =
     let fit = good (goal.at.loop-n-preserved c).Start in
     let inv = c.loop-n.invariant in
     let more = row_begins fit c.loop-n-test.true in
-    rw (next_at c.loop-n.n c.args.row_bytes) (row_turned fit c.requires.room inv more _ _ (row-meant c.requires inv more true c.args.le c.args.out_le c.args.forward) c.transform_words.ensures)
+    rw (next_at c.loop-n.n c.args.row_bytes) (row_turned fit c.requires.room inv more _ _ (row-meant c.requires inv more true c.args.form.le c.args.form.out_le c.args.forward) c.transform_words.ensures)
 
 pub returns : goal.returns
 returns c =

@@ -6,4 +6,4 @@ use Rattle.rows.proofs.Rows.{RowsUpto}
 use Rattle.rows.proofs.predicted_rows.Given as goal
 
 abbrev pub invariant-loop-n : goal.invariant-loop-n
-invariant-loop-n l = RowsUpto (stored_at l.width l.out_le (meant l.forward (strip l.row_bytes l.channels l.width) true l.le l.raw)) l.raw (strip l.row_bytes l.channels l.width) l.initial.out (l.n * l.row_bytes) l.out
+invariant-loop-n l = RowsUpto (stored_at l.form.width l.form.out_le (meant l.forward (strip l.row_bytes l.form.channels l.form.width) true l.form.le l.raw)) l.raw (strip l.row_bytes l.form.channels l.form.width) l.initial.out (l.n * l.row_bytes) l.out

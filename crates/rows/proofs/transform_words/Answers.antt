@@ -21,21 +21,21 @@ lead-requires c =
 pub steps-requires : goal.steps-requires
 steps-requires c =
     let args = c.args in
-    (c.requires.takes, lead_on args.raw.now (bytes (goal.at.steps-requires c).After-shared_slice_known-1) args.channels args.width args.le args.out_le args.forward args.out.now _ c.requires c.lead.ensures)
+    (c.requires.takes, lead_on args.raw.now (bytes (goal.at.steps-requires c).After-shared_slice_known-1) args.form.channels args.form.width args.form.le args.form.out_le args.forward args.out.now _ c.requires c.lead.ensures)
 
-pub returns-then-forward-channels : goal.returns-then-forward-channels
-returns-then-forward-channels c =
+pub returns-then-forward-form : goal.returns-then-forward-form
+returns-then-forward-form c =
     let args = c.args in
-    rw c.if-predict.true (lead_all args.raw.now (bytes (goal.at.returns-then-forward-channels c).After-shared_slice_known-1) args.channels args.width args.le args.out_le args.forward args.out.now _ c.requires c.lead.ensures _ c.steps.ensures)
+    rw c.if-predict.true (lead_all args.raw.now (bytes (goal.at.returns-then-forward-form c).After-shared_slice_known-1) args.form.channels args.form.width args.form.le args.form.out_le args.forward args.out.now _ c.requires c.lead.ensures _ c.steps.ensures)
 
-pub returns-else-forward-channels : goal.returns-else-forward-channels
-returns-else-forward-channels c =
-    let at_most_four : (c.args.forward ≡ false) × (c.args.channels ≤ 4) = let is = neither _ _ c.if-forward-channels.false in (is.0, ltb-false _ _ is.1) in
+pub returns-else-forward-form : goal.returns-else-forward-form
+returns-else-forward-form c =
+    let at_most_four : (c.args.forward ≡ false) × (c.args.form.channels ≤ 4) = let is = neither _ _ c.if-forward-form.false in (is.0, ltb-false _ _ is.1) in
     let args = c.args in
-    rw (c.if-predict.true, at_most_four.0) (c.rows.ensures ∙ resumed-none args.raw.now (one_row args.raw.now args.channels args.width) args.le args.out_le args.out.now 4 c.requires.fits.channel)
+    rw (c.if-predict.true, at_most_four.0) (c.rows.ensures ∙ resumed-none args.raw.now (one_row args.raw.now args.form.channels args.form.width) args.form.le args.form.out_le args.out.now 4 c.requires.fits.channel)
 
 pub returns-else-predict : goal.returns-else-predict
 returns-else-predict c =
     let args = c.args in
-    let words = groups-words (length args.raw.now) args.channels args.width c.requires.fits.groups in
-    rw c.if-predict.false (unpredicted args.raw.now (bytes (goal.at.returns-else-predict c).After-shared_slice_known-1) (one_row args.raw.now args.channels args.width) args.le args.out_le args.forward args.out.now c.reorder.result _ c.requires.takes words c.requires.fits.room c.reorder.ensures)
+    let words = groups-words (length args.raw.now) args.form.channels args.form.width c.requires.fits.groups in
+    rw c.if-predict.false (unpredicted args.raw.now (bytes (goal.at.returns-else-predict c).After-shared_slice_known-1) (one_row args.raw.now args.form.channels args.form.width) args.form.le args.form.out_le args.forward args.out.now c.reorder.result _ c.requires.takes words c.requires.fits.room c.reorder.ensures)

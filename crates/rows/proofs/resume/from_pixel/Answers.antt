@@ -17,10 +17,10 @@ pixels-requires c =
 
 pub words-requires : goal.words-requires
 words-requires c =
-    let whole : ℕ = let args = c.args in length args.raw.now - length args.raw.now % (args.channels * args.width) in
-    back-run c.args.le c.args.out_le c.requires whole (whole-inside c.requires) (whole_words c.requires) c.pixels.ensures 0 c.requires.here
+    let whole : ℕ = let args = c.args in length args.raw.now - length args.raw.now % (args.form.channels * args.form.width) in
+    back-run c.args.form.le c.args.form.out_le c.requires whole (whole-inside c.requires) (whole_words c.requires) c.pixels.ensures 0 c.requires.here
 
 pub returns : goal.returns
 returns c =
-    let whole : ℕ = let args = c.args in length args.raw.now - length args.raw.now % (args.channels * args.width) in
-    both_ran c.args.le c.args.out_le c.requires whole (whole-inside c.requires) (whole_words c.requires) c.pixels.ensures (whole-pixels c.requires) c.words.ensures
+    let whole : ℕ = let args = c.args in length args.raw.now - length args.raw.now % (args.form.channels * args.form.width) in
+    both_ran c.args.form.le c.args.form.out_le c.requires whole (whole-inside c.requires) (whole_words c.requires) c.pixels.ensures (whole-pixels c.requires) c.words.ensures

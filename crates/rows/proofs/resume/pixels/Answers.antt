@@ -7,4 +7,4 @@ use Rattle.rows.proofs.resume.pixels.Goals as goal
 pub returns : goal.returns
 returns c =
     let more : 0 < length c.args.raw.now = omega arith in
-    pixels_ran c.requires more c.args.le c.args.out_le c.rows.ensures c.held.ensures
+    pixels_ran c.requires more c.args.form.le c.args.form.out_le c.rows.ensures c.held.ensures

@@ -8,18 +8,18 @@ inside : (c : After-leading-lead) → c.leading-lead.result ≤ length c.args.ra
 inside c =
     lead_inside c.requires c.leading-lead.result c.leading-lead.ensures
 
-in_words : (c : After-leading-lead) → c.leading-lead.result % c.args.width ≡ 0
+in_words : (c : After-leading-lead) → c.leading-lead.result % c.args.form.width ≡ 0
 in_words c =
     lead_words c.requires c.leading-lead.result c.leading-lead.ensures
 
 pub words-requires : goal.words-requires
 words-requires c =
-    front-run c.args.le c.args.out_le c.requires c.leading-lead.result (inside (goal.at.words-requires c).After-leading-lead) (in_words (goal.at.words-requires c).After-leading-lead)
+    front-run c.args.form.le c.args.form.out_le c.requires c.leading-lead.result (inside (goal.at.words-requires c).After-leading-lead) (in_words (goal.at.words-requires c).After-leading-lead)
 
 pub from_pixel-requires : goal.from_pixel-requires
 from_pixel-requires c =
-    back-run c.args.le c.args.out_le c.requires c.leading-lead.result (inside (goal.at.from_pixel-requires c).After-leading-lead) (in_words (goal.at.from_pixel-requires c).After-leading-lead) c.words.ensures 0 (omega (arith, c.requires.here))
+    back-run c.args.form.le c.args.form.out_le c.requires c.leading-lead.result (inside (goal.at.from_pixel-requires c).After-leading-lead) (in_words (goal.at.from_pixel-requires c).After-leading-lead) c.words.ensures 0 (omega (arith, c.requires.here))
 
 pub returns : goal.returns
 returns c =
-    both_ran c.args.le c.args.out_le c.requires c.leading-lead.result (inside (goal.at.returns c).After-leading-lead) (in_words (goal.at.returns c).After-leading-lead) c.words.ensures refl (lead_on c.requires c.leading-lead.result c.leading-lead.ensures c.from_pixel.ensures)
+    both_ran c.args.form.le c.args.form.out_le c.requires c.leading-lead.result (inside (goal.at.returns c).After-leading-lead) (in_words (goal.at.returns c).After-leading-lead) c.words.ensures refl (lead_on c.requires c.leading-lead.result c.leading-lead.ensures c.from_pixel.ensures)

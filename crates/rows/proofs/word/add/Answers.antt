@@ -6,9 +6,9 @@ use Rattle.rows.proofs.word.add.Goals as goal
 pub returns-else-width-eq4 : goal.returns-else-width-eq4
 returns-else-width-eq4 c =
     let eight : c.args.width ≡ 8 = served-wide _ c.requires c.if-width-gt3.true c.if-width-eq4.false in
-    rw eight (omega (arith, c.wrapping_add_u64-else-width-eq4.ensures))
+    rw eight (omega arith)
 
 pub returns-else-width-eq2 : goal.returns-else-width-eq2
 returns-else-width-eq2 c =
     let three : c.args.width ≡ 3 = served-narrow _ c.requires c.if-width-gt3.false c.if-width-eq1.false c.if-width-eq2.false in
-    rw three (omega (arith, c.wrapping_add_u64-else-width-eq2.ensures))
+    rw three (omega arith)
