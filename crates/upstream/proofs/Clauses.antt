@@ -1,5 +1,6 @@
 -- The clauses of native_samples.rs, native_rgba.rs and adapter_bounds.rs, one lemma each, from our promise to the clause over upstream's definitions.
 -- Those that refuse width 3 hold at every other width. Assumes nothing.
+use Rattle.std.specs.declared.result.Result.TheVariants as ResultIs
 use Prim.Native.Nat.{ℕ, ◌+◌, ◌-◌, ◌*◌, ◌/◌, ◌%◌, ◌≤◌, ◌<◌}
 use mathlib.Core.Path.{◌≡◌, refl, sym, ap, ◌∙◌}
 use mathlib.Core.Bool.{Bool, true, false}
@@ -46,9 +47,9 @@ module _ (s : List ℕ) (at width : ℕ) (le : Bool) (other : width ≡ 3 → �
       back v = sound_ok (read_faults s at width) (word_at s at width le) p (next (held (sym (width_same width other) ∙ v.0)) (next (le-ltb (length s) (at + width) v.1) none))
 
   -- what is read, and that it is below the modulus
-  pub read_word_value : (v : ℕ) → Bytes s → ReadWord s at width le (Ok v) → (v ≡ word s at width le) × (v < modulus width)
+  pub read_word_value : (v : ℕ) → Bytes s → ReadWord s at width le (ResultIs.Ok v) → (v ≡ word s at width le) × (v < modulus width)
   read_word_value v b p =
-      let ok = ((read_word_ok_exactly (Ok v) p).0 (v, refl)).0 in
+      let ok = ((read_word_ok_exactly (ResultIs.Ok v) p).0 (v, refl)).0 in
       let same : v ≡ word_at s at width le = value-is (read_faults s at width) (word_at s at width le) p v refl in
       (same ∙ sym (word_same s at width le ok), rw (modulus-same width ok, same) (word_below s at width le b))
 
@@ -146,7 +147,7 @@ module _ (s : List ℕ) (i : ℕ) (wide le : Bool) where
   load_value answer p h =
       sound-value (load_faults s i wide) _ p (next (le-ltb (length s) ((i + 1) * load_width wide) h) none) ∙ ap done value_same
 
-  pub load_at-most : (v : ℕ) → Bytes s → LoadedWord s i wide le (Ok v) → v ≤ pick wide 65535 255
+  pub load_at-most : (v : ℕ) → Bytes s → LoadedWord s i wide le (ResultIs.Ok v) → v ≤ pick wide 65535 255
   load_at-most v b p = rw (value-is (load_faults s i wide) _ p v refl) (by wide)
     where
       by : (c : Bool) → word_at s (i * load_width c) (load_width c) le ≤ pick c 65535 255

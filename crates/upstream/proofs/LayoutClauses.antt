@@ -1,5 +1,6 @@
 -- The clauses of raster_layout.rs and of `render_native`, one lemma each, from our promises to the clause over upstream's definitions. A premise there
 -- is a refusal here, so a clause that is a premise is shown of every call that is ok. Assumes nothing.
+use Rattle.std.specs.declared.result.Result.TheVariants as ResultIs
 use Prim.Native.Nat.{ℕ, ◌+◌, ◌-◌, ◌*◌, ◌/◌, ◌≤◌, ◌<◌}
 use mathlib.Core.Path.{◌≡◌, refl, sym, ◌∙◌}
 use mathlib.Core.Bool.{Bool, true, false, ◌&&◌}
@@ -31,17 +32,17 @@ use Rattle.upstream.proofs.Calls.{ok_sound, sound_ok, value-is, refused_for, byt
 
 -- a record that one of our two checks takes
 abbrev pub Taken : RasterLayout → Type 0
-Taken l = RecordChecked l (Ok tt) ⊎ ((f : Fields) × LayoutChecked f (Ok l))
+Taken l = RecordChecked l (ResultIs.Ok tt) ⊎ ((f : Fields) × LayoutChecked f (ResultIs.Ok l))
 
 pub taken_valid : (l : RasterLayout) → Taken l → Valid l × Within l
 taken_valid l (inl p) = Theorems.record_valid l p
 taken_valid l (inr c) = (Theorems.checked_valid c.0 l c.1).0
 
 -- and each takes every record that is valid within the limits
-pub valid_taken : (l : RasterLayout) → Valid l → Within l → (answer : Done) → RecordChecked l answer → answer ≡ (Ok tt)
+pub valid_taken : (l : RasterLayout) → Valid l → Within l → (answer : Done) → RecordChecked l answer → answer ≡ (ResultIs.Ok tt)
 valid_taken l v t answer p = Theorems.valid_record l answer v t p
 
-pub valid_answered : (l : RasterLayout) → Valid l → Within l → (answer : Answer RasterLayout) → LayoutChecked l.fields answer → answer ≡ Ok l
+pub valid_answered : (l : RasterLayout) → Valid l → Within l → (answer : Answer RasterLayout) → LayoutChecked l.fields answer → answer ≡ ResultIs.Ok l
 valid_answered l v t answer p = Theorems.valid_checked l answer v t p
 
 -- `valid`, line by line
@@ -108,10 +109,10 @@ module _ (l : RasterLayout) (k : ℕ) where
   index_past_refused answer p v t h =
       refused_for (index_faults l k) (Ours.source_index l k) p (sound_then (valid_record_sound l v t) (here (le-leb l.output_len k h)))
 
-  pub index_is-source_index : (at : ByteAt) → Indexed l k (Ok at) → at.0 ≡ source_index l k
+  pub index_is-source_index : (at : ByteAt) → Indexed l k (ResultIs.Ok at) → at.0 ≡ source_index l k
   index_is-source_index at p = value-is (index_faults l k) (Ours.source_index l k) p at.0 refl ∙ sym (source_index-same l k)
 
-  pub index_below_scratch : (at : ByteAt) → Indexed l k (Ok at) → at.0 < l.scratch_len
+  pub index_below_scratch : (at : ByteAt) → Indexed l k (ResultIs.Ok at) → at.0 < l.scratch_len
   index_below_scratch at p = Theorems.index_below_scratch l k at p
 
 -- what `well_formed` says of a layout besides, with step 3's limit for its largest output

@@ -1,6 +1,6 @@
 -- `hamrisk_file_length` meets its contract: a layout that is refused is refused by `file_length` too, and the record that is handed on is the
 -- completed one, so that what is promised of its length is the call's promise. Assumes nothing.
-use Rattle.std.specs.Prelude.{Err}
+use Rattle.std.specs.Prelude.{ℕ, Err}
 use mathlib.Core.Path.{refl, ◌∙◌}
 use Rattle.answer.specs.Outcome.{Answer}
 use Rattle.layout.specs.declared.RasterLayout.{RasterLayout}
