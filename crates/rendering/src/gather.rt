@@ -4,20 +4,19 @@ ghost use Rattle.rendering.specs.Rows.{PlainRowAsked, Gathered, PixelFits, Pixel
 
 use layout::RasterLayout;
 
-// A pixel of channels of this many bytes, each from its plane.
-fn pixel<const BYTES: usize>(
+// A pixel of so many channels of so many bytes, each from its plane.
+fn pixel<const CHANNELS: usize, const BYTES: usize>(
     raw: &[u8],
     plane_len: usize,
     place: usize,
-    channels: usize,
     le: bool,
     at: usize,
     out: &mut [u8],
 )
-    requires { PixelFits raw.now plane_len place channels BYTES at out.old × OneOrTwo BYTES }
-    ensures { PixelGathered raw.now plane_len place channels BYTES le at out.old out.new }
+    requires { PixelFits raw.now plane_len place CHANNELS BYTES at out.old × OneOrTwo BYTES }
+    ensures { PixelGathered raw.now plane_len place CHANNELS BYTES le at out.old out.new }
 {
-    for c in 0..channels {
+    for c in 0..CHANNELS {
         let word = pixels::word::<BYTES>(raw, place + c * plane_len, le);
         let to = at + c * BYTES;
         let end = to + BYTES;
@@ -25,28 +24,24 @@ fn pixel<const BYTES: usize>(
     }
 }
 
-// The same. Each arm knows its number of channels, so the compiler writes their loops out.
-fn known_pixel<const BYTES: usize>(
+// A row of pixels whose channels stand in planes of their own.
+fn pixels_apart<const CHANNELS: usize, const BYTES: usize>(
     raw: &[u8],
     plane_len: usize,
-    place: usize,
-    channels: usize,
+    from: usize,
     le: bool,
-    at: usize,
     out: &mut [u8],
 )
-    requires { PixelFits raw.now plane_len place channels BYTES at out.old × OneOrTwo BYTES }
-    ensures { PixelGathered raw.now plane_len place channels BYTES le at out.old out.new }
+    requires { PlanesFit raw.now plane_len from CHANNELS BYTES out.old }
+    ensures { PlanesInto raw.now plane_len from CHANNELS BYTES le out.old out.new }
 {
-    match channels {
-        2 => pixel::<BYTES>(raw, plane_len, place, channels, le, at, out),
-        3 => pixel::<BYTES>(raw, plane_len, place, channels, le, at, out),
-        4 => pixel::<BYTES>(raw, plane_len, place, channels, le, at, out),
-        _ => pixel::<BYTES>(raw, plane_len, place, channels, le, at, out),
+    let stride = CHANNELS * BYTES;
+    for p in 0..out.len() / stride {
+        pixel::<CHANNELS, BYTES>(raw, plane_len, from + p * BYTES, le, p * stride, out);
     }
 }
 
-// A row of pixels whose channels stand in planes of their own.
+// The same for each number of channels that a picture has.
 fn planes<const BYTES: usize>(
     raw: &[u8],
     plane_len: usize,
@@ -58,17 +53,11 @@ fn planes<const BYTES: usize>(
     requires { PlanesFit raw.now plane_len from channels BYTES out.old }
     ensures { PlanesInto raw.now plane_len from channels BYTES le out.old out.new }
 {
-    let stride = channels * BYTES;
-    for p in 0..out.len() / stride {
-        known_pixel::<BYTES>(
-            raw,
-            plane_len,
-            from + p * BYTES,
-            channels,
-            le,
-            p * stride,
-            out,
-        );
+    match channels {
+        1 => pixels_apart::<1, BYTES>(raw, plane_len, from, le, out),
+        2 => pixels_apart::<2, BYTES>(raw, plane_len, from, le, out),
+        3 => pixels_apart::<3, BYTES>(raw, plane_len, from, le, out),
+        _ => pixels_apart::<4, BYTES>(raw, plane_len, from, le, out),
     }
 }
 

@@ -27,32 +27,31 @@ fn paint(file: &[u8], place: usize, step: usize, out: &mut [u8], at: usize)
 }
 
 // The index of a column: a byte, a nibble or a bit, the first the highest.
-fn index(raw: &[u8], x: usize, slots: usize) -> usize
-    requires { (one_two_eight slots ≡ true) × (x / slots < length raw.now) }
-    ensures { IndexAt slots raw.now x result }
+fn index<const SLOTS: usize>(raw: &[u8], x: usize) -> usize
+    requires { (one_two_eight SLOTS ≡ true) × (x / SLOTS < length raw.now) }
+    ensures { IndexAt SLOTS raw.now x result }
 {
-    (raw[x / slots] as usize >> ((slots - 1 - x % slots) * (8 / slots))) % colours(slots)
+    (raw[x / SLOTS] as usize >> ((SLOTS - 1 - x % SLOTS) * (8 / SLOTS))) % colours(SLOTS)
 }
 
-fn paint_of(file: &[u8], first: usize, slots: usize, raw: &[u8], out: &mut [u8])
-    requires { PaintFits file.now first slots raw.now out.old }
-    ensures { PaintedInto file.now first slots raw.now out.old out.new }
+fn paint_of<const SLOTS: usize>(file: &[u8], first: usize, raw: &[u8], out: &mut [u8])
+    requires { PaintFits file.now first SLOTS raw.now out.old }
+    ensures { PaintedInto file.now first SLOTS raw.now out.old out.new }
 {
-    let step = 2 * colours(slots);
+    let step = 2 * colours(SLOTS);
     for x in 0..out.len() / 3 {
-        paint(file, first + 2 * index(raw, x, slots), step, out, 3 * x);
+        paint(file, first + 2 * index::<SLOTS>(raw, x), step, out, 3 * x);
     }
 }
 
-// A row. Each arm knows its number of slots, so the compiler makes a loop of each.
+// A row, by a loop for each number of slots.
 pub(crate) fn paint_row(file: &[u8], first: usize, slots: usize, raw: &[u8], out: &mut [u8])
     requires { PaintFits file.now first slots raw.now out.old }
     ensures { PaintedInto file.now first slots raw.now out.old out.new }
 {
     match slots {
-        1 => paint_of(file, first, slots, raw, out),
-        2 => paint_of(file, first, slots, raw, out),
-        8 => paint_of(file, first, slots, raw, out),
-        _ => paint_of(file, first, slots, raw, out),
+        1 => paint_of::<1>(file, first, raw, out),
+        2 => paint_of::<2>(file, first, raw, out),
+        _ => paint_of::<8>(file, first, raw, out),
     }
 }

@@ -1,12 +1,7 @@
--- `pixels::divide_pixels` meets its contract: the invariant and its laws are in proofs/Pixels.antt, and shares are looked up. Assumes nothing.
-use Prim.Native.Nat.{◌-◌}
+-- `pixels::divide_pixels` meets its contract: the invariant and its laws are in proofs/Pixels.antt. Assumes nothing.
 use mathlib.Core.Bool.{true}
-use lib.ListN.{length}
 use Rattle.pixels.proofs.Pixels.{Straight}
 use Rattle.pixels.proofs.divide_pixels.Given as goal
 
-abbrev pub invariant-loop-at : goal.invariant-loop-at
-invariant-loop-at l = Straight l.initial.s l.channels true l.white l.at l.s
-
-abbrev pub decreases-loop-at : goal.decreases-loop-at
-decreases-loop-at l = length l.initial.s - l.at
+abbrev pub invariant-loop-p : goal.invariant-loop-p
+invariant-loop-p l = Straight l.initial.s l.channels true l.white l.p l.s

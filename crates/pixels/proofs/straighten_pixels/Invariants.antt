@@ -1,7 +1,6 @@
 -- `pixels::straighten_pixels` meets its contract: the invariant and its laws are in proofs/Pixels.antt. Assumes nothing.
-use Prim.Native.Nat.{◌*◌}
 use Rattle.pixels.proofs.Pixels.{Straight}
 use Rattle.pixels.proofs.straighten_pixels.Given as goal
 
 abbrev pub invariant-loop-p : goal.invariant-loop-p
-invariant-loop-p l = Straight l.initial.s l.channels l.multiplied l.white (l.p * l.channels) l.s
+invariant-loop-p l = Straight l.initial.s l.channels l.multiplied l.white l.p l.s

@@ -3,4 +3,4 @@ use Rattle.slots.proofs.Painting.{Columns}
 use Rattle.slots.proofs.paint.paint_of.Given as goal
 
 abbrev pub invariant-loop-x : goal.invariant-loop-x
-invariant-loop-x l = Columns l.file l.first l.slots l.raw l.initial.out l.x l.out
+invariant-loop-x g l = Columns l.file l.first g.row.SLOTS l.raw l.initial.out l.x l.out

@@ -1,7 +1,7 @@
--- `rendering::gather::planes` meets its contract: the invariant and its laws are in proofs/Gathering.antt. Assumes nothing.
+-- `rendering::gather::pixels_apart` meets its contract: the invariant and its laws are in proofs/Gathering.antt. Assumes nothing.
 use native.Mathlib.Omega.{arith}
 use Rattle.rendering.proofs.Gathering.{stride_few, pixel_next}
-use Rattle.rendering.proofs.gather.planes.Goals as goal
+use Rattle.rendering.proofs.gather.pixels_apart.Goals as goal
 
 pub overflow_mul-stride : goal.overflow_mul-stride
 overflow_mul-stride g c =
@@ -9,4 +9,4 @@ overflow_mul-stride g c =
 
 pub loop-p-preserved : goal.loop-p-preserved
 loop-p-preserved g c =
-    pixel_next c.requires c.loop-p.invariant (omega (arith, c.loop-p-test.true)) _ c.known_pixel.ensures
+    pixel_next c.requires c.loop-p.invariant (omega (arith, c.loop-p-test.true)) _ c.pixel.ensures

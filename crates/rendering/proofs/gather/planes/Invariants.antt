@@ -1,6 +1,0 @@
--- `rendering::gather::planes` meets its contract: the invariant and its laws are in proofs/Gathering.antt. Assumes nothing.
-use Rattle.rendering.proofs.Gathering.{GatheredPixels}
-use Rattle.rendering.proofs.gather.planes.Given as goal
-
-abbrev pub invariant-loop-p : goal.invariant-loop-p
-invariant-loop-p g l = GatheredPixels l.raw l.plane_len l.from l.channels g.row.BYTES l.le l.initial.out l.p l.out
