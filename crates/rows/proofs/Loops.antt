@@ -14,7 +14,7 @@ use Rattle.samples.specs.Sample.{Strip, alone, word_of, sample, difference, stor
 use Rattle.samples.proofs.Sums.{sample-alone, sample-later, difference-later}
 use Rattle.samples.proofs.Stored.{stored_byte}
 use Rattle.samples.proofs.Undo.{sample_below}
-use Rattle.rows.specs.Row.{one_row, RowFits, HeldFits, FewFit, Led, resumed_in, resumed, ResumedInto}
+use Rattle.rows.specs.Row.{one_row, RowFits, FewFit, Led, resumed_in, resumed, ResumedInto}
 use Rattle.laws.proofs.Lists.{nothing, zeros}
 
 -- the place of the next of parts of k bytes

@@ -1,6 +1,6 @@
 -- Words of a row that is taken up in its middle: the loop over them, whole pixels by the loops that hold the sums, and two runs that are one.
 -- Assumes nothing.
-use Rattle.std.proofs.Common.{◌≡◌, ℕ, zero, suc, ◌+◌, ◌-◌, ◌*◌, ◌/◌, ◌%◌, ◌<◌, ◌≤◌, Bool, eqb, List, [], ◌∷◌, length, get_or, set, sym, refl, ap, ◌∙◌, add-zero, add_assoc, mul-le-mul_right, mod-lt, mod-eq_of_lt, mul_assoc, div-lt_iff_lt-mul, add-mul, one-mul, div-add-mod', le-div_iff_mul-le, zero-add, zero-mul, mul-div_cancel, add-one, arith, length-set, get_or-set_other, get_or-set_same, ext_get_or}
+use Rattle.std.proofs.Common.{◌≡◌, ℕ, zero, suc, ◌+◌, ◌-◌, ◌*◌, ◌/◌, ◌%◌, ◌<◌, ◌≤◌, Bool, eqb, List, [], ◌∷◌, length, get_or, set, sym, refl, ap, ◌∙◌, add-zero, add_assoc, mul-le-mul_right, mod-lt, mod-eq_of_lt, mul_assoc, div-lt_iff_lt-mul, add-mul, one-mul, div-add-mod', le-div_iff_mul-le, zero-add, mul-div_cancel, add-one, arith, length-set, get_or-set_other, get_or-set_same, ext_get_or}
 use native.Mathlib.Nat.{mod-add-mod, add-mod_right, zero-div, add-div_right, mul-mod_left, zero-mod}
 use native.Mathlib.Decide.{dec_lt, ℕ_discrete}
 use Rattle.answer.specs.Outcome.{pick}

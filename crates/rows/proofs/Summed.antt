@@ -1,11 +1,9 @@
 -- The loop over the pixels of a row of N channels: the sums of a pixel's channels, and what is stored of it. Assumes nothing.
-use Rattle.std.proofs.Common.{◌≡◌, ℕ, ◌+◌, ◌-◌, ◌*◌, ◌/◌, ◌%◌, ◌<◌, ◌≤◌, Bool, List, length, get_or, set, take, sym, refl, ap, ◌∙◌, add-zero, mul_assoc, add-mul, one-mul, zero-mul, mul-le-mul_right, mul-div_cancel, le-div_iff_mul-le, div-add-mod', mul-pos, length-set, get_or-set_same, get_or-set_other, get_or-take, arith}
-use native.Mathlib.Nat.{mul-mod_left}
+use Rattle.std.proofs.Common.{◌≡◌, ℕ, ◌+◌, ◌*◌, ◌/◌, ◌%◌, ◌<◌, ◌≤◌, Bool, List, length, get_or, set, take, sym, ◌∙◌, mul_assoc, add-mul, one-mul, zero-mul, mul-le-mul_right, mul-div_cancel, le-div_iff_mul-le, div-add-mod', mul-pos, length-set, get_or-set_same, get_or-set_other, get_or-take, arith}
 use native.Mathlib.Decide.{dec_lt}
 use Rattle.std.proofs.lemmas.List.{length-take-le}
 use Rattle.words.specs.Word.{word_at, Put, plus}
 use Rattle.laws.proofs.Groups.{groups-words}
-use Rattle.samples.specs.Sample.{word_of}
 use Rattle.rows.specs.Row.{HeldFits, resumed, ResumedInto}
 use Rattle.rows.proofs.Loops.{Upto, upto_none, turned, ended, carried, carried_first, carried_later, carried_on}
 

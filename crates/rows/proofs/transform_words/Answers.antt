@@ -1,18 +1,12 @@
 -- `rows::transform_words` meets its contract: words in the other order without prediction, else the row predicted or undone.
 -- Assumes nothing.
 use Rattle.std.proofs.Common.{◌≡◌, ◌≤◌, false, length, ◌∙◌, arith, ltb-false}
-use Rattle.words.specs.Word.{Bytes}
 use Rattle.laws.proofs.Groups.{groups-words}
 use Rattle.laws.proofs.Says.{neither}
 use Rattle.rows.specs.Row.{one_row}
 use Rattle.rows.proofs.Loops.{resumed-none}
 use Rattle.rows.proofs.Leading.{lead_fits, lead_on, lead_all, unpredicted}
-use Rattle.rows.proofs.transform_words.Goals.{After-shared_slice_known-1}
 use Rattle.rows.proofs.transform_words.Goals as goal
-
-bytes : (c : After-shared_slice_known-1) → Bytes c.args.raw.now
-bytes c =
-    λ i. omega (arith, c.type_inv.raw i)
 
 pub lead-requires : goal.lead-requires
 lead-requires c =
@@ -21,12 +15,12 @@ lead-requires c =
 pub steps-requires : goal.steps-requires
 steps-requires c =
     let args = c.args in
-    (c.requires.takes, lead_on args.raw.now (bytes (goal.at.steps-requires c).After-shared_slice_known-1) args.form.channels args.form.width args.form.le args.form.out_le args.forward args.out.now _ c.requires c.lead.ensures)
+    (c.requires.takes, lead_on args.raw.now (λ i. omega (arith, c.type_inv.raw i)) args.form.channels args.form.width args.form.le args.form.out_le args.forward args.out.now _ c.requires c.lead.ensures)
 
 pub returns-then-forward-form : goal.returns-then-forward-form
 returns-then-forward-form c =
     let args = c.args in
-    rw c.if-predict.true (lead_all args.raw.now (bytes (goal.at.returns-then-forward-form c).After-shared_slice_known-1) args.form.channels args.form.width args.form.le args.form.out_le args.forward args.out.now _ c.requires c.lead.ensures _ c.steps.ensures)
+    rw c.if-predict.true (lead_all args.raw.now (λ i. omega (arith, c.type_inv.raw i)) args.form.channels args.form.width args.form.le args.form.out_le args.forward args.out.now _ c.requires c.lead.ensures _ c.steps.ensures)
 
 pub returns-else-forward-form : goal.returns-else-forward-form
 returns-else-forward-form c =
@@ -38,4 +32,4 @@ pub returns-else-predict : goal.returns-else-predict
 returns-else-predict c =
     let args = c.args in
     let words = groups-words (length args.raw.now) args.form.channels args.form.width c.requires.fits.groups in
-    rw c.if-predict.false (unpredicted args.raw.now (bytes (goal.at.returns-else-predict c).After-shared_slice_known-1) (one_row args.raw.now args.form.channels args.form.width) args.form.le args.form.out_le args.forward args.out.now c.reorder.result _ c.requires.takes words c.requires.fits.room c.reorder.ensures)
+    rw c.if-predict.false (unpredicted args.raw.now (λ i. omega (arith, c.type_inv.raw i)) (one_row args.raw.now args.form.channels args.form.width) args.form.le args.form.out_le args.forward args.out.now c.reorder.result _ c.requires.takes words c.requires.fits.room c.reorder.ensures)

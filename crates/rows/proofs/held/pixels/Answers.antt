@@ -1,8 +1,8 @@
 -- `rows::held::pixels` meets its contract, at every width and for every number of channels: what is stored so far are the samples, and the sums
 -- are those of proofs/Summed.antt. Assumes nothing.
-use Rattle.std.proofs.Common.{◌≡◌, ◌+◌, ◌*◌, ◌<◌, ◌≤◌, add-zero, add-mul, one-mul, mul-le-mul, arith}
+use Rattle.std.proofs.Common.{◌≡◌, ◌+◌, ◌*◌, add-mul, one-mul, mul-le-mul, arith}
 use Rattle.words.proofs.Served.{served-some}
-use Rattle.rows.proofs.Summed.{summed-first, summed-next, summed-on, stored-on, row_begun, row_ended}
+use Rattle.rows.proofs.Summed.{summed-first, summed-next, summed-on, stored-on, row_begun}
 use Rattle.rows.proofs.held.pixels.Goals as goal
 
 pub overflow_mul-pixel : goal.overflow_mul-pixel
