@@ -37,12 +37,12 @@ fn words(raw: &[u8], first: usize, form: Form, sums: &mut [u64], out: &mut [u8])
 }
 
 // The last sample of each channel, read back.
-fn held(out: &[u8], last: usize, channels: usize, width: usize, out_le: bool, sums: &mut [u64])
-    requires { LastFits out.now last channels width sums.old }
-    ensures { Held out.now last channels width out_le sums.old sums.new }
+fn held(out: &[u8], last: usize, form: Form, sums: &mut [u64])
+    requires { LastFits out.now last form.channels form.width sums.old }
+    ensures { Held out.now last form.channels form.width form.out_le sums.old sums.new }
 {
-    for channel in 0..channels {
-        sums[channel] = word::get(out, last + channel * width, width, out_le);
+    for channel in 0..form.channels {
+        sums[channel] = word::get(out, last + channel * form.width, form.width, form.out_le);
     }
 }
 
@@ -58,14 +58,7 @@ fn pixels(raw: &[u8], form: Form, sums: &mut [u64], out: &mut [u8])
         return words(raw, 0, form, sums, out);
     }
     few::rows(raw, raw.len(), form, sums, out);
-    held(
-        out,
-        raw.len() - form.channels * form.width,
-        form.channels,
-        form.width,
-        form.out_le,
-        sums,
-    )
+    held(out, raw.len() - form.channels * form.width, form, sums)
 }
 
 // Words from a pixel's start on.
