@@ -1,6 +1,6 @@
 -- The loops over a row, for every width: their invariants, how a turn keeps each, and what it comes to at the end. Assumes nothing.
-use Rattle.std.proofs.Common.{◌≡◌, ℕ, zero, suc, ◌+◌, ◌-◌, ◌*◌, ◌/◌, ◌%◌, ◌<◌, ◌≤◌, Bool, true, false, ltb, List, [], ◌∷◌, length, get_or, sym, refl, ap, ◌∙◌, add-zero, mod-lt, mod-eq_of_lt, mul_comm, add-mul, one-mul, div-add-mod', le-div_iff_mul-le, le-mul_of_pos_right, mul-div_cancel, add-one, arith, le-ltb, lt-ltb}
-use native.Mathlib.Nat.{mul-mod_left, zero-mod, add-mod_right, add-mul-div_right, mod-add-mod, add-mod-mod, mul-sub, sub-zero}
+use Rattle.std.proofs.Common.{◌≡◌, ℕ, zero, suc, ◌+◌, ◌-◌, ◌*◌, ◌/◌, ◌%◌, ◌<◌, ◌≤◌, Bool, true, false, ltb, List, [], ◌∷◌, length, get_or, sym, refl, ap, ◌∙◌, add-zero, mod-lt, mod-eq_of_lt, mul_comm, add-mul, one-mul, div-add-mod', le-div_iff_mul-le, le-mul_of_pos_right, add-one, arith, le-ltb, lt-ltb}
+use native.Mathlib.Nat.{mul-mod_left, zero-mod, add-mod_right, mod-add-mod, add-mod-mod, mul-sub, sub-zero}
 use native.Mathlib.Decide.{dec_lt}
 use Rattle.answer.specs.Outcome.{pick}
 use lib.Seq.{take-length}
@@ -67,10 +67,6 @@ pub carried_first : (raw : List ℕ) (channels width : ℕ) (le : Bool) (start :
 unfolding carried
 carried_first raw channels width le start n h = rw (lt-ltb n channels h)
 
--- the first pixel's sums are what the row starts from
-pub carried_start : (raw : List ℕ) (channels width : ℕ) (le : Bool) (start : List ℕ) (j k : ℕ) → 0 < width → j < channels → k ≡ j * width → get_or start j 0 ≡ carried raw channels width le start (k / width)
-carried_start raw channels width le start j k some h e = rw (e, mul-div_cancel j some) (sym (carried_first raw channels width le start j h))
-
 pub carried_later : (raw : List ℕ) (channels width : ℕ) (le : Bool) (start : List ℕ) (n : ℕ) → carried raw channels width le start (n + channels) ≡ resumed raw channels width le start n
 unfolding carried
 carried_later raw channels width le start n =
@@ -133,22 +129,6 @@ four-all raw channels width le out_le start old new fit is =
     ∙ filled-same (length raw) _ _ old (λ k h.
     ap (λ (s : ℕ). digit 256 (ordered out_le width (k % width)) (plus width (sample (one_row raw channels width) true le raw (k / width)) s))
     (four_same start (k / width % channels) (omega (arith, fit.few, mod-lt (k / width) fit.row.fits.channel))))
-
--- a row whose channels' sums are carried along, from any start
-module _ (le : Bool) (start : List ℕ) {raw : List ℕ} {channels width : ℕ} {out_le : Bool} {old : List ℕ} {at : ℕ} {out : List ℕ} (fits : RowFits raw channels width old) (is : Upto (resumed raw channels width le start) width out_le (length raw) old at out) where
-  pub sum_room : at < length raw → at + width ≤ length raw
-  sum_room more = turn_room is (groups-words (length raw) channels width fits.groups) more
-
-  -- a turn: the word and the sum so far are the sample, which is stored, and carried into the next pixel
-  module _ (more : at < length raw) {sum : ℕ} (carry : sum ≡ carried raw channels width le start (at / width)) {x : ℕ} (e : x ≡ plus width (word_at raw at width le) sum) where
-    summed-on : x ≡ resumed raw channels width le start (at / width)
-    summed-on =
-        let here : word_of width le raw (at / width) ≡ word_at raw at width le = ap (λ (k : ℕ). word_at raw k width le) (back_at is) in
-        e ∙ rw (carry, ← here) (sym (carried_on raw channels width le start (at / width) fits.channel (in_words is (groups-words (length raw) channels width fits.groups) more fits.wide)))
-
-    pub next-sum : {new : List ℕ} → Put out at width out_le x new → (next : ℕ) → next ≡ at + channels * width → Upto (resumed raw channels width le start) width out_le (length raw) old (at + width) new × (x ≡ carried raw channels width le start (next / width))
-    next-sum {new} put next there =
-        (turned is (groups-words (length raw) channels width fits.groups) more fits.room x new summed-on put, summed-on ∙ sym (carried_later raw channels width le start (at / width)) ∙ ap (carried raw channels width le start) (sym (ap (λ (k : ℕ). k / width) there ∙ add-mul-div_right at channels fits.wide)))
 
 -- a pixel holds a word
 pub pixel_wide : {raw : List ℕ} {channels width : ℕ} {out : List ℕ} → RowFits raw channels width out → width ≤ channels * width

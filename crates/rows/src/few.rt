@@ -34,6 +34,7 @@ fn turned(raw: &[u8], form: Form, a: u64, b: u64, c: u64, d: u64, out: &mut [u8]
     by_channels::<true>(raw, form, &[a, b, c, d], out)
 }
 
+// Both are called from two places, and so stay calls: with an `if` in place of the arms rows of 16 pixels ran at 0.64 to 0.97.
 fn few(raw: &[u8], form: Form, start: &[u64], out: &mut [u8])
     requires { FewFit raw.now form.channels form.width start.now out.old }
     ensures { ResumedInto raw.now form.channels form.width form.le form.out_le start.now out.old out.new }

