@@ -1,6 +1,6 @@
 -- The alpha rule by shares: a colour times its alpha's share, held at 255 and to nearest, is the rule's colour. Assumes nothing.
 use Prim.Native.Nat.{ℕ, ◌+◌, ◌-◌, ◌*◌, ◌/◌, ◌≤◌, ◌<◌, min}
-use mathlib.Core.Path.{◌≡◌, ap, ◌∙◌}
+use mathlib.Core.Path.{◌≡◌, ◌∙◌}
 use native.Mathlib.Decide.{dec_lt}
 use native.Mathlib.Nat.{mul-zero, mul-add, mul-div-le, lt-mul-div-succ}
 use native.Mathlib.Omega.{arith}
@@ -18,10 +18,6 @@ held-nearest full held is = omega arith
 pub share_none : (a : ℕ) → a ≡ 0 → share_of a ≡ 0
 unfolding share_of
 share_none a e = rw (eq-eqb a 0 e)
-
-pub share_divided : (a : ℕ) → (a ≡ 0 → ⊥) → share_of a ≡ (33423359 + a) / a
-unfolding share_of
-share_divided a n = rw (ne_eqb a 0 n) (ap (λ (x : ℕ). x / a) (omega arith))
 
 -- a share times its alpha is 255 in parts of 2^17, and less than alpha more
 share_times : (a : ℕ) → 0 < a → (33423360 ≤ a * share_of a) × (a * share_of a < 33423360 + a)

@@ -38,17 +38,6 @@ pub fn word<const BYTES: usize>(s: &[u8], at: usize, le: bool) -> [u8; BYTES]
     word
 }
 
-// The share of an alpha, worked out: 33423360 / a, rounded up.
-fn share(a: u8) -> u32
-    ensures { result ≡ share_of a }
-{
-    if a == 0 {
-        0
-    } else {
-        (33423359 + (a as u32)) / (a as u32)
-    }
-}
-
 // A colour that was multiplied by alpha, divided by it again: rule 6.5 for alpha kind 1. Times its alpha's share it is 255 × u / a in parts of 2^17,
 // of which 33423360 are 255 and 65536 a half.
 fn straighten(u: u8, share: u32) -> u8
@@ -97,43 +86,31 @@ fn straighten_known(s: &mut [u8], at: usize, last: usize, multiplied: bool, whit
     }
 }
 
-// Every pixel by its alpha's share, which is worked out, and where nothing was multiplied left out by the compiler.
-fn straighten_pixels(s: &mut [u8], channels: usize, multiplied: bool, white: bool)
-    requires { WholePixels s.old channels }
+// Every pixel by its alpha's share, which the compiler leaves out where nothing was multiplied.
+fn straighten_pixels(
+    s: &mut [u8],
+    channels: usize,
+    multiplied: bool,
+    white: bool,
+    shares: &[u32; 256],
+)
+    requires { WholePixels s.old channels × Tabled 256 share_of shares.now }
     ensures { PixelsStraightened s.old channels multiplied white s.new }
 {
     let last = channels - 1;
     for p in 0..s.len() / channels {
         let at = p * channels;
-        let part = share(s[at + last]);
-        straighten_known(s, at, last, multiplied, white, part);
+        let share = shares[s[at + last] as usize];
+        straighten_known(s, at, last, multiplied, white, share);
     }
 }
 
-// Every pixel that was multiplied, by a table of the shares: a loop of its own, since the compiler leaves a test for each pixel in the loop.
-fn divide_pixels(s: &mut [u8], channels: usize, white: bool, shares: &[u32; 256])
-    requires { WholePixels s.old channels × Tabled 256 share_of shares.now }
-    ensures { PixelsStraightened s.old channels true white s.new }
-{
-    let last = channels - 1;
-    for p in 0..s.len() / channels {
-        let at = p * channels;
-        let a = s[at + last] as usize;
-        straighten_known(s, at, last, true, white, shares[a]);
-    }
-}
-
-// A row that was multiplied. The table is stored anew wherever it is named, here once a row, so that few pixels are faster without it.
-fn divide_row(s: &mut [u8], channels: usize, white: bool)
+// The same by the table, which one computed test shows to be right.
+fn straighten_whole(s: &mut [u8], channels: usize, multiplied: bool, white: bool)
     requires { WholePixels s.old channels }
-    ensures { PixelsStraightened s.old channels true white s.new }
+    ensures { PixelsStraightened s.old channels multiplied white s.new }
 {
-    if s.len() < 64 {
-        straighten_pixels(s, channels, true, white);
-    } else {
-        let shares = SHARES;
-        divide_pixels(s, channels, white, &shares);
-    }
+    straighten_pixels(s, channels, multiplied, white, &SHARES);
 }
 
 // Colours beside alpha, in place: divided by it if they were multiplied, inverted where white is 0. Each pixel's last byte is its alpha.
@@ -154,12 +131,12 @@ pub fn straighten_row(
     if multiplied {
         // two calls, of which the compiler takes neither in: the callers' loops need the registers
         if white {
-            divide_row(s, channels, true);
+            straighten_whole(s, channels, true, true);
         } else {
-            divide_row(s, channels, false);
+            straighten_whole(s, channels, true, false);
         }
     } else {
-        straighten_pixels(s, channels, false, white);
+        straighten_whole(s, channels, false, white);
     }
     Ok(())
 }

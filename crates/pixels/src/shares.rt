@@ -1,5 +1,5 @@
 // The share of each alpha byte a: 255 / a in parts of 2^17, rounded up, and 0 for alpha 0. A colour times its alpha's share is divided by alpha.
-pub(crate) const SHARES: [u32; 256] = [
+pub(crate) static SHARES: [u32; 256] = [
     0, 33423360, 16711680, 11141120, 8355840, 6684672, 5570560, 4774766, 4177920, 3713707, 3342336,
     3038488, 2785280, 2571028, 2387383, 2228224, 2088960, 1966080, 1856854, 1759125, 1671168,
     1591589, 1519244, 1453190, 1392640, 1336935, 1285514, 1237903, 1193692, 1152530, 1114112,

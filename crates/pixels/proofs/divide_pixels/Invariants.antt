@@ -1,7 +1,0 @@
--- `pixels::divide_pixels` meets its contract: the invariant and its laws are in proofs/Pixels.antt. Assumes nothing.
-use mathlib.Core.Bool.{true}
-use Rattle.pixels.proofs.Pixels.{Straight}
-use Rattle.pixels.proofs.divide_pixels.Given as goal
-
-abbrev pub invariant-loop-p : goal.invariant-loop-p
-invariant-loop-p l = Straight l.initial.s l.channels true l.white l.p l.s
