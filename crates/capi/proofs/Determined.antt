@@ -7,7 +7,7 @@ use mathlib.Core.List.{List}
 use Rattle.answer.specs.Outcome.{Outcome, outcome, place_outcome}
 use Rattle.words.specs.Promises.{ReadWord, LoadedWord}
 use Rattle.words.proofs.Determined.{read_word_determined, load_determined}
-use Rattle.samples.specs.Sample.{Strip}
+use Rattle.samples.specs.declared.Strip.{Strip}
 use Rattle.samples.specs.Promises.{StripChecked, Converted, Forwarded}
 use Rattle.samples.proofs.Determined.{check_strip_determined}
 use Rattle.strips.proofs.Determined.{convert_determined, forward_determined}

@@ -3,6 +3,7 @@
 #![tactic(auto)]
 
 use answer::{ByteAt, Refusal, SampleAt};
+use samples::Strip;
 
 mod layouts;
 mod packing;
@@ -18,6 +19,17 @@ ghost use Rattle.damage.specs.Promises.{Marked};
 ghost use Rattle.swaps.specs.Swapped.{Swapped};
 ghost use Rattle.transport.specs.Moved.{Committed, Reversed};
 ghost use Rattle.capi.specs.Told.{status as statusOf, Told, Lent};
+
+// A strip's geometry, which C hands in as three numbers.
+fn strip_of(row: usize, channels: usize, width: usize) -> Strip
+    ensures { result ≡ strip row channels width }
+{
+    Strip {
+        row,
+        channels,
+        width,
+    }
+}
 
 // 0 for done, or rule 1.1's number of the refusal.
 pub(crate) fn status(d: Result<(), Refusal>) -> u32
@@ -74,7 +86,7 @@ pub extern "C" fn hamrisk_check_strip(
 ) -> u32
     ensures { Told outcome (StripChecked raw_len (strip row_bytes channels width)) result }
 {
-    status(samples::check_strip(raw_len, row_bytes, channels, width))
+    status(samples::check_strip(raw_len, strip_of(row_bytes, channels, width)))
 }
 
 // The samples of a strip, each stored in the asked byte order.
@@ -91,7 +103,8 @@ pub extern "C" fn hamrisk_convert(
 ) -> u32
     ensures { Told outcome (λ d. Converted raw.now (strip row_bytes channels width) predict le out_le out.old d out.new) result }
 {
-    status(strips::convert(raw, row_bytes, channels, width, le, predict, out_le, out))
+    let strip = strip_of(row_bytes, channels, width);
+    status(strips::convert(raw, strip, le, predict, out_le, out))
 }
 
 // Forward prediction: the words that `hamrisk_convert` reads back to these samples.
@@ -108,7 +121,8 @@ pub extern "C" fn hamrisk_forward(
 ) -> u32
     ensures { Told outcome (λ d. Forwarded raw.now (strip row_bytes channels width) predict le out_le out.old d out.new) result }
 {
-    status(strips::forward(raw, row_bytes, channels, width, le, predict, out_le, out))
+    let strip = strip_of(row_bytes, channels, width);
+    status(strips::forward(raw, strip, le, predict, out_le, out))
 }
 
 // Which samples the damaged bytes can change, and how many they are.
@@ -124,10 +138,8 @@ pub extern "C" fn hamrisk_marks(
 ) -> u32
     ensures { Lent outcome (λ d. Marked damage.now (strip row_bytes channels width) predict marks.old d marks.new) result count.old count.new }
 {
-    lend(
-        damage::marks(damage, row_bytes, channels, width, predict, marks),
-        count,
-    )
+    let strip = strip_of(row_bytes, channels, width);
+    lend(damage::marks(damage, strip, predict, marks), count)
 }
 
 // Every byte's bits reversed, in place.

@@ -5,7 +5,7 @@ ghost use Rattle.packet_numbers.specs.Numbers.{PieceOn, CloseOn};
 ghost use Rattle.capi.specs.Told.{Told, Lent, StartTold};
 
 use crate::{lend, status};
-use packets::Packets;
+use packets::{Packets, Plan};
 
 // A conversion of which no byte has come.
 #[unsafe(no_mangle)]
@@ -20,7 +20,14 @@ pub extern "C" fn hamrisk_packets_start(
 ) -> u32
     ensures { StartTold (plan_of row_bytes channels width le predict out_le) result state.new }
 {
-    let started = Packets::start(row_bytes, channels, width, le, predict, out_le);
+    let started = Packets::start(Plan {
+        row_bytes,
+        channels,
+        width,
+        le,
+        predict,
+        out_le,
+    });
     *state = packet_numbers::numbers_of(started.state);
     status(started.answer)
 }

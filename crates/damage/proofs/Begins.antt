@@ -13,7 +13,8 @@ use Rattle.answer.specs.Table.{table}
 use Rattle.answer.proofs.Filling.{part, length_part, part_at, halfway, front-filled, both_filled, table_same, length-filled}
 use Rattle.words.proofs.Served.{served-some}
 use Rattle.laws.proofs.Groups.{group_room}
-use Rattle.samples.specs.Sample.{Strip, strip, alone}
+use Rattle.samples.specs.Sample.{strip, alone}
+use Rattle.samples.specs.declared.Strip.{Strip}
 use Rattle.damage.specs.Marks.{struck_at, struck, marked, mark_byte}
 use Rattle.damage.specs.Passes.{SoundTo, FirstDamaged, Words, PixelStruck, since, MarkedFrom, MarksFit, RowMarked}
 use Rattle.laws.proofs.Lists.{table-all}

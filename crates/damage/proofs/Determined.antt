@@ -5,7 +5,7 @@ use mathlib.Core.List.{List}
 use Prim.Native.Nat.{ℕ}
 use Rattle.answer.specs.Outcome.{outcome, Answer}
 use Rattle.answer.proofs.Promised.{determined, answer_once}
-use Rattle.samples.specs.Sample.{Strip}
+use Rattle.samples.specs.declared.Strip.{Strip}
 use Rattle.damage.specs.Promises.{Marked}
 
 pub marks_determined : (damage : List ℕ) (g : Strip) (predict : Bool) (old : List ℕ) (a b : Answer ℕ) (x y : List ℕ) → Marked damage g predict old a x → Marked damage g predict old b y → (a ≡ b) × (x ≡ y)

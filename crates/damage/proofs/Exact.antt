@@ -15,7 +15,8 @@ use Rattle.answer.proofs.Filling.{length-table, table_at}
 use Rattle.words.specs.Digits.{digit}
 use Rattle.words.specs.Word.{ordered, Bytes, modulus}
 use Rattle.words.proofs.Words.{word_below, word-digit, word_same, plus-left, plus-right}
-use Rattle.samples.specs.Sample.{Strip, alone, word_of, sample}
+use Rattle.samples.specs.Sample.{alone, word_of, sample}
+use Rattle.samples.specs.declared.Strip.{Strip}
 use Rattle.samples.proofs.Sums.{not_alone, sample-alone, sample-later}
 use Rattle.laws.proofs.Says.{neither}
 use Rattle.samples.proofs.Undo.{sample_below}

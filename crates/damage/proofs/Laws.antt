@@ -11,7 +11,8 @@ use lib.Dec.{eqb}
 use lib.ListN.{length, get_or}
 use Rattle.answer.specs.Outcome.{Sound}
 use Rattle.answer.proofs.Promised.{done-sound, done-value}
-use Rattle.samples.specs.Sample.{Strip, Good, sample}
+use Rattle.samples.specs.Sample.{Good, sample}
+use Rattle.samples.specs.declared.Strip.{Strip}
 use Rattle.samples.proofs.Strips.{per_row_lem, width_fits}
 use Rattle.samples.proofs.Rows.{row-alone}
 use Rattle.damage.specs.Marks.{damaged, struck, marked, mark_byte, counted, Alike}

@@ -12,7 +12,8 @@ use Rattle.answer.proofs.Promised.{sound-here}
 use Rattle.answer.proofs.Filling.{part, length_part, part_at, part_filled, length-table, length-filled, filled-all, table_same}
 use Rattle.words.specs.Promises.{served}
 use Rattle.laws.proofs.Groups.{group_room, turns_all}
-use Rattle.samples.specs.Sample.{Strip, strip, Good}
+use Rattle.samples.specs.Sample.{strip, Good}
+use Rattle.samples.specs.declared.Strip.{Strip}
 use Rattle.samples.proofs.Strips.{good_checked, per_row_lem}
 use Rattle.damage.specs.Marks.{damaged, struck, marked, mark_byte, counted}
 use Rattle.damage.specs.Passes.{Bits, OwnInto, OnwardInto, MarksFit, StripMarksFit, MarkedInto, RowMarked}

@@ -13,7 +13,8 @@ use lib.ListN.{get_or}
 use Rattle.answer.specs.Outcome.{pick}
 use Rattle.words.specs.Word.{word_at}
 use Rattle.laws.proofs.Groups.{into_group}
-use Rattle.samples.specs.Sample.{Strip, alone}
+use Rattle.samples.specs.Sample.{alone}
+use Rattle.samples.specs.declared.Strip.{Strip}
 use Rattle.samples.proofs.Sums.{in_row, not_alone, first_alone}
 use Rattle.laws.proofs.Says.{neither}
 use Rattle.damage.specs.Marks.{damaged, any_below, struck_at, struck, tainted, marked, mark_byte}

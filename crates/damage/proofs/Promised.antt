@@ -11,7 +11,8 @@ use Rattle.answer.specs.Outcome.{unless, Promise, Sound, outcome, Answer}
 use Rattle.answer.specs.Table.{table}
 use Rattle.answer.proofs.Promised.{finished, finishes, sound-front}
 use Rattle.answer.proofs.Filling.{part, length_part, part_filled, table_same, filled-front}
-use Rattle.samples.specs.Sample.{Strip, Good}
+use Rattle.samples.specs.Sample.{Good}
+use Rattle.samples.specs.declared.Strip.{Strip}
 use Rattle.samples.specs.Promises.{strip_faults}
 use Rattle.samples.proofs.Strips.{good_checked, bytes-words}
 use Rattle.damage.specs.Marks.{marked, mark_byte, counted}

@@ -4,7 +4,8 @@
 use Rattle.std.specs.Prelude.{ℕ, zero, suc, ◌+◌, ◌-◌, ◌*◌, ◌<◌, ◌≡◌, Bool, false, not, ◌||◌, List, length, get_or, eqb}
 use Rattle.answer.specs.Outcome.{pick}
 use Rattle.words.specs.Word.{Bytes}
-use Rattle.samples.specs.Sample.{Strip, alone, sample}
+use Rattle.samples.specs.Sample.{alone, sample}
+use Rattle.samples.specs.declared.Strip.{Strip}
 
 -- byte k is damaged
 abbrev pub damaged : List ℕ → ℕ → Bool

@@ -4,7 +4,8 @@ use Rattle.std.specs.Prelude.{ℕ, ◌+◌, ◌-◌, ◌*◌, ◌%◌, ◌≤◌
 use Rattle.answer.specs.Outcome.{Sound, pick}
 use Rattle.answer.specs.Table.{table}
 use Rattle.words.specs.Promises.{served}
-use Rattle.samples.specs.Sample.{Strip, strip}
+use Rattle.samples.specs.Sample.{strip}
+use Rattle.samples.specs.declared.Strip.{Strip}
 use Rattle.samples.specs.Promises.{strip_faults}
 use Rattle.damage.specs.Marks.{struck, marked, mark_byte, counted}
 

@@ -3,7 +3,7 @@
 use Rattle.std.specs.Prelude.{ℕ, ◌/◌, ◌<◌, ◌≡◌, Bool, List, [], ◌∷◌, ◌++◌, length, get_or, ltb}
 use Rattle.answer.specs.Outcome.{Fault, unless, output_too_small, Promise, Sound, outcome, Answer}
 use Rattle.answer.specs.Table.{table}
-use Rattle.samples.specs.Sample.{Strip}
+use Rattle.samples.specs.declared.Strip.{Strip}
 use Rattle.samples.specs.Promises.{strip_faults}
 use Rattle.damage.specs.Marks.{marked, mark_byte, counted, Differ}
 

@@ -10,11 +10,11 @@ mod own;
 mod pixel;
 
 ghost use Rattle.std.specs.Prelude.{true};
-ghost use Rattle.samples.specs.Sample.{strip};
 ghost use Rattle.damage.specs.Passes.{MarksFit, RowMarked, StripMarksFit, MarkedInto};
 ghost use Rattle.damage.specs.Promises.{Marked};
 
 use answer::Refusal;
+use samples::Strip;
 
 // A predicted row. Where its damage begins with a hit in every channel, the marks are 0 up to there and 1 from there on.
 fn mark_row(damage: &[u8], channels: usize, width: usize, marks: &mut [u8]) -> usize
@@ -31,70 +31,48 @@ fn mark_row(damage: &[u8], channels: usize, width: usize, marks: &mut [u8]) -> u
     }
 }
 
-fn mark_rows(
-    damage: &[u8],
-    row_bytes: usize,
-    channels: usize,
-    width: usize,
-    marks: &mut [u8],
-) -> usize
-    requires { StripMarksFit damage.now (strip row_bytes channels width) marks.old }
-    ensures { MarkedInto damage.now (strip row_bytes channels width) true marks.old result marks.new }
+fn mark_rows(damage: &[u8], strip: Strip, marks: &mut [u8]) -> usize
+    requires { StripMarksFit damage.now strip marks.old }
+    ensures { MarkedInto damage.now strip true marks.old result marks.new }
 {
-    let row_marks = row_bytes / width;
+    let row_marks = strip.row / strip.width;
     let mut count: usize = 0;
-    for row in 0..damage.len() / row_bytes {
-        let at = row * row_bytes;
+    for row in 0..damage.len() / strip.row {
+        let at = row * strip.row;
         let n = row * row_marks;
-        let end = at + row_bytes;
+        let end = at + strip.row;
         let last = n + row_marks;
-        count += mark_row(&damage[at..end], channels, width, &mut marks[n..last]);
+        count += mark_row(
+            &damage[at..end],
+            strip.channels,
+            strip.width,
+            &mut marks[n..last],
+        );
     }
     count
 }
 
-fn mark_strip(
-    damage: &[u8],
-    row_bytes: usize,
-    channels: usize,
-    width: usize,
-    predict: bool,
-    marks: &mut [u8],
-) -> usize
-    requires { StripMarksFit damage.now (strip row_bytes channels width) marks.old }
-    ensures { MarkedInto damage.now (strip row_bytes channels width) predict marks.old result marks.new }
+fn mark_strip(damage: &[u8], strip: Strip, predict: bool, marks: &mut [u8]) -> usize
+    requires { StripMarksFit damage.now strip marks.old }
+    ensures { MarkedInto damage.now strip predict marks.old result marks.new }
 {
     if predict {
-        mark_rows(damage, row_bytes, channels, width, marks)
+        mark_rows(damage, strip, marks)
     } else {
-        own::own(damage, width, marks);
+        own::own(damage, strip.width, marks);
         count::total(marks)
     }
 }
 
 // Which samples the damaged bytes can change, a byte for each: 1 if they can, 0 if not.
-pub fn marks(
-    damage: &[u8],
-    row_bytes: usize,
-    channels: usize,
-    width: usize,
-    predict: bool,
-    marks: &mut [u8],
-) -> Result<usize, Refusal>
-    ensures { Marked damage.now (strip row_bytes channels width) predict marks.old result marks.new }
+pub fn marks(damage: &[u8], strip: Strip, predict: bool, marks: &mut [u8]) -> Result<usize, Refusal>
+    ensures { Marked damage.now strip predict marks.old result marks.new }
 {
-    samples::check_strip(damage.len(), row_bytes, channels, width)?;
-    let samples = damage.len() / width;
+    samples::check_strip(damage.len(), strip)?;
+    let samples = damage.len() / strip.width;
     if marks.len() < samples {
         return Err(Refusal::OutputTooSmall);
     }
-    let count = mark_strip(
-        damage,
-        row_bytes,
-        channels,
-        width,
-        predict,
-        &mut marks[0..samples],
-    );
+    let count = mark_strip(damage, strip, predict, &mut marks[0..samples]);
     Ok(count)
 }

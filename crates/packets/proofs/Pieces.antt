@@ -15,7 +15,8 @@ use Rattle.answer.proofs.Filling.{length-table, table_same, table_join}
 use Rattle.answer.proofs.Promised.{writes, passed, sound-here, sound_rest, sound_more, sound-done, finishes}
 use Rattle.words.specs.Digits.{digit}
 use Rattle.words.specs.Word.{Bytes, ordered}
-use Rattle.samples.specs.Sample.{Strip, stored_at}
+use Rattle.samples.specs.Sample.{stored_at}
+use Rattle.samples.specs.declared.Strip.{Strip}
 use Rattle.samples.specs.Promises.{strip_faults, convert_faults, Converted}
 use Rattle.samples.proofs.Strips.{bytes-words, good_checked}
 use Rattle.packets.specs.declared.Packets.{Packets}

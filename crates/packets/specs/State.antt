@@ -3,7 +3,8 @@ use Rattle.std.specs.Prelude.{ℕ, zero, suc, ◌+◌, ◌*◌, ◌/◌, ◌%◌
 use Rattle.answer.specs.Outcome.{Fault, pick}
 use Rattle.answer.specs.Table.{table}
 use Rattle.words.specs.Word.{modulus}
-use Rattle.samples.specs.Sample.{Strip, strip, sample, stored_at}
+use Rattle.samples.specs.Sample.{strip, sample, stored_at}
+use Rattle.samples.specs.declared.Strip.{Strip}
 use Rattle.samples.specs.Promises.{strip_faults}
 use Rattle.laws.specs.Turns.{every}
 use Rattle.packets.specs.declared.Plan.{Plan}

@@ -8,6 +8,7 @@ ghost use Rattle.packets.specs.State.{sum_right, tails_right, sums_right, consis
 ghost use Rattle.packets.specs.Promises.{plan, state};
 
 use crate::feed;
+use samples::Strip;
 
 fn byte_right(x: u8, is_live: bool) -> bool
     ensures { result ≡ (is_live || eqb x 0) }
@@ -105,7 +106,12 @@ pub(crate) fn passes(
     requires { (length tail.now ≡ 8) × (length sums.now ≡ 64) }
     ensures { result ≡ consistent (state (plan row_bytes channels width true predict true) received tail.now sums.now) }
 {
-    if samples::check_strip(0, row_bytes, channels, width).is_err() {
+    let strip = Strip {
+        row: row_bytes,
+        channels,
+        width,
+    };
+    if samples::check_strip(0, strip).is_err() {
         return false;
     }
     if 1073741824 < received {

@@ -4,6 +4,7 @@ ghost use Rattle.words.specs.Promises.{served};
 ghost use Rattle.packets.specs.Steps.{Cleared, HoldFits, Held, RowWords, RowsWords, Across, Predicted, OneWord, WordsFeed, WordsFed, FromWord, missing, Finishes, BytesFeed, BytesFed};
 
 use crate::Plan;
+use samples::Strip;
 
 // The words of so many bytes, and the bytes past them. Neither divides by a variable: a width that is not 3 is a power of two.
 pub(crate) fn whole(n: usize, width: usize) -> usize
@@ -74,11 +75,14 @@ fn from_row(plan: Plan, received: usize, raw: &[u8], sums: &mut [u64], out: &mut
 {
     let start: usize = 0;
     let rows = raw.len() - raw.len() % plan.row_bytes;
+    let strip = Strip {
+        row: plan.row_bytes,
+        channels: plan.channels,
+        width: plan.width,
+    };
     let _ = strips::convert(
         &raw[start..rows],
-        plan.row_bytes,
-        plan.channels,
-        plan.width,
+        strip,
         plan.le,
         plan.predict,
         plan.out_le,

@@ -6,9 +6,10 @@ mod check;
 mod feed;
 
 ghost use Rattle.std.specs.Prelude.{◌≡◌};
-ghost use Rattle.packets.specs.Promises.{nowhere, plan as plan_of, state, Begun, Took, TookLent, Closed};
+ghost use Rattle.packets.specs.Promises.{nowhere, state, Begun, Took, TookLent, Closed};
 
 use answer::Refusal;
+use samples::Strip;
 
 // What a start fixes.
 #[derive(Clone, Copy)]
@@ -108,44 +109,24 @@ pub fn lent_piece(
 
 impl Packets {
     // A conversion of which no byte has come.
-    pub fn start(
-        row_bytes: usize,
-        channels: usize,
-        width: usize,
-        le: bool,
-        predict: bool,
-        out_le: bool,
-    ) -> Started
-        ensures { Begun (plan_of row_bytes channels width le predict out_le) result }
+    pub fn start(plan: Plan) -> Started
+        ensures { Begun plan result }
     {
         let state = nothing();
-        match samples::check_strip(0, row_bytes, channels, width) {
-            Err(k) => Started {
-                state: state,
-                answer: Err(k),
+        let strip = Strip {
+            row: plan.row_bytes,
+            channels: plan.channels,
+            width: plan.width,
+        };
+        match samples::check_strip(0, strip) {
+            Err(kind) => Started {
+                state,
+                answer: Err(kind),
             },
-            Ok(()) => {
-                let plan = Plan {
-                    row_bytes: row_bytes,
-                    channels: channels,
-                    width: width,
-                    le: le,
-                    predict: predict,
-                    out_le: out_le,
-                };
-                let tail = state.tail;
-                let sums = state.sums;
-                let begun = Packets {
-                    plan: plan,
-                    received: 0,
-                    tail: tail,
-                    sums: sums,
-                };
-                Started {
-                    state: begun,
-                    answer: Ok(()),
-                }
-            }
+            Ok(()) => Started {
+                state: Packets { plan, ..state },
+                answer: Ok(()),
+            },
         }
     }
 

@@ -79,21 +79,22 @@ fn answer_strip(
     input: &[u8],
     out: &mut [u8],
 ) -> Result<usize, Refusal> {
-    let (row, channels, width) = (p.row, p.channels, p.width);
+    let width = p.width;
+    let strip = samples::Strip {
+        row: p.row,
+        channels: p.channels,
+        width,
+    };
     let (le, predict, out_le) = (p.le, p.predict, p.out_le);
     match call {
-        StripCall::Convert => {
-            strips::convert(input, row, channels, width, le, predict, out_le, out)?
-        }
-        StripCall::Forward => {
-            strips::forward(input, row, channels, width, le, predict, out_le, out)?
-        }
+        StripCall::Convert => { strips::convert(input, strip, le, predict, out_le, out)? }
+        StripCall::Forward => { strips::forward(input, strip, le, predict, out_le, out)? }
         StripCall::Reorder => samples::reorder(input, width, le, out_le, out)?,
         StripCall::SwapComponents => swaps::swap_components(input, width, out)?,
         StripCall::CommitUninit => transport::commit_uninit(input, out)?,
         StripCall::ReverseBits => reverse(input, out)?,
-        StripCall::CheckStrip => samples::check_strip(input.len(), row, channels, width)?,
-        StripCall::Marks => return damage::marks(input, row, channels, width, predict, out),
+        StripCall::CheckStrip => samples::check_strip(input.len(), strip)?,
+        StripCall::Marks => return damage::marks(input, strip, predict, out),
         StripCall::ReadWord => {
             let word = words::read_word(input, ByteAt(p.place), width, le)?;
             return Ok(word as usize);

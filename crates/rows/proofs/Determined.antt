@@ -2,7 +2,7 @@
 use Rattle.std.proofs.Common.{◌≡◌, ℕ, Bool, List, sym, ◌∙◌}
 use Rattle.answer.proofs.Promised.{answer_determined}
 use Rattle.answer.specs.Outcome.{Done}
-use Rattle.samples.specs.Sample.{Strip}
+use Rattle.samples.specs.declared.Strip.{Strip}
 use Rattle.rows.specs.Row.{one_row, Transformed, RowTransformed}
 use Rattle.rows.specs.Resume.{RowResumed}
 

@@ -10,7 +10,8 @@ use Rattle.words.specs.Digits.{digit}
 use Rattle.words.specs.Word.{ordered, Bytes, modulus}
 use Rattle.words.specs.Promises.{served}
 use Rattle.words.proofs.Words.{word_below}
-use Rattle.samples.specs.Sample.{Strip, word_of, alone, stored_at}
+use Rattle.samples.specs.Sample.{word_of, alone, stored_at}
+use Rattle.samples.specs.declared.Strip.{Strip}
 use Rattle.samples.specs.Promises.{reorder_faults, Reordered}
 use Rattle.samples.proofs.Sums.{sample-alone, difference-alone}
 use Rattle.rows.specs.Row.{one_row, meant, RowServed, Led, LeadFits, LedInto, meant_at, TransformedInto}

@@ -10,7 +10,8 @@ use Rattle.words.specs.Digits.{digit}
 use Rattle.words.specs.Word.{ordered, word_at, Put, modulus, plus, minus}
 use Rattle.words.proofs.Words.{digits_word}
 use Rattle.laws.proofs.Groups.{group_room, groups-words}
-use Rattle.samples.specs.Sample.{Strip, alone, word_of, sample, difference, stored_at}
+use Rattle.samples.specs.Sample.{alone, word_of, sample, difference, stored_at}
+use Rattle.samples.specs.declared.Strip.{Strip}
 use Rattle.samples.proofs.Sums.{sample-alone, sample-later, difference-later}
 use Rattle.samples.proofs.Stored.{stored_byte}
 use Rattle.samples.proofs.Undo.{sample_below}

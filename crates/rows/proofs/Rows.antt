@@ -10,7 +10,8 @@ use Rattle.answer.proofs.Filling.{part, length_part, part_filled, length-filled,
 use Rattle.words.specs.Word.{plus}
 use Rattle.words.specs.Promises.{served}
 use Rattle.laws.proofs.Groups.{group_room}
-use Rattle.samples.specs.Sample.{Strip, strip, Good, stored_at}
+use Rattle.samples.specs.Sample.{strip, Good, stored_at}
+use Rattle.samples.specs.declared.Strip.{Strip}
 use Rattle.samples.specs.Promises.{strip_faults, convert_faults}
 use Rattle.samples.proofs.Strips.{good_checked, row_checked}
 use Rattle.samples.proofs.Parts.{part_made, part_samples, part_differences}

@@ -3,7 +3,8 @@
 use Rattle.std.specs.Prelude.{◌≡◌, ℕ, ◌*◌, ◌%◌, ◌<◌, ◌≤◌, Bool, true, List, [], ◌∷◌, ◌++◌, length, take, nat_lt, slice_index}
 use Rattle.answer.specs.Outcome.{unless, output_too_small, pick, Promise, Sound, outcome, Done}
 use Rattle.answer.specs.Table.{table, filled}
-use Rattle.samples.specs.Sample.{word_of, Strip, strip, Good, sample, difference, stored_at}
+use Rattle.samples.specs.Sample.{word_of, strip, Good, sample, difference, stored_at}
+use Rattle.samples.specs.declared.Strip.{Strip}
 use Rattle.words.specs.Word.{plus}
 use Rattle.words.specs.Promises.{served}
 use Rattle.samples.specs.Promises.{strip_faults, convert_faults}

@@ -18,6 +18,7 @@ ghost use Rattle.rows.specs.Row.{RowServed, StripServed, RoomChecked, LeadFits, 
 
 use crate::form::Form;
 use answer::Refusal;
+use samples::Strip;
 
 // The first words of a row, which stand for themselves.
 fn lead(raw: &[u8], form: Form, out: &mut [u8])
@@ -76,16 +77,10 @@ fn every_row(raw: &[u8], row_bytes: usize, form: Form, forward: bool, out: &mut 
 }
 
 // The strip check, then the room.
-fn checked(
-    raw_len: usize,
-    row_bytes: usize,
-    channels: usize,
-    width: usize,
-    out_len: usize,
-) -> Result<(), Refusal>
-    ensures { RoomChecked raw_len (strip row_bytes channels width) out_len result }
+fn checked(raw_len: usize, strip: Strip, out_len: usize) -> Result<(), Refusal>
+    ensures { RoomChecked raw_len strip out_len result }
 {
-    samples::check_strip(raw_len, row_bytes, channels, width)?;
+    samples::check_strip(raw_len, strip)?;
     if out_len < raw_len {
         return Err(Refusal::OutputTooSmall);
     }
@@ -95,28 +90,26 @@ fn checked(
 // A strip: its samples, or with `forward` the strip predicted. Without prediction its words go over all at once.
 pub fn transform_rows(
     raw: &[u8],
-    row_bytes: usize,
-    channels: usize,
-    width: usize,
+    strip: Strip,
     le: bool,
     predict: bool,
     out_le: bool,
     forward: bool,
     out: &mut [u8],
 ) -> Result<(), Refusal>
-    ensures { Transformed raw.now (strip row_bytes channels width) predict le out_le forward out.old result out.new }
+    ensures { Transformed raw.now strip predict le out_le forward out.old result out.new }
 {
-    checked(raw.len(), row_bytes, channels, width, out.len())?;
+    checked(raw.len(), strip, out.len())?;
     if predict {
         let form = Form {
-            channels,
-            width,
+            channels: strip.channels,
+            width: strip.width,
             le,
             out_le,
         };
-        every_row(raw, row_bytes, form, forward, out);
+        every_row(raw, strip.row, form, forward, out);
     } else {
-        let _ = samples::reorder(raw, width, le, out_le, out);
+        let _ = samples::reorder(raw, strip.width, le, out_le, out);
     }
     Ok(())
 }
@@ -134,7 +127,12 @@ pub fn transform_row(
 ) -> Result<(), Refusal>
     ensures { RowTransformed raw.now channels width predict le out_le forward out.old result out.new }
 {
-    checked(raw.len(), raw.len(), channels, width, out.len())?;
+    let strip = Strip {
+        row: raw.len(),
+        channels,
+        width,
+    };
+    checked(raw.len(), strip, out.len())?;
     let form = Form {
         channels,
         width,

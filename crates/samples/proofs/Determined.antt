@@ -5,7 +5,7 @@ use mathlib.Core.List.{List}
 use Prim.Native.Nat.{ℕ}
 use Rattle.answer.proofs.Promised.{answer_once, answer_determined}
 use Rattle.answer.specs.Outcome.{Done}
-use Rattle.samples.specs.Sample.{Strip}
+use Rattle.samples.specs.declared.Strip.{Strip}
 use Rattle.samples.specs.Promises.{StripChecked, Reordered}
 
 pub check_strip_determined : (bytes : ℕ) (g : Strip) (a b : Done) → StripChecked bytes g a → StripChecked bytes g b → a ≡ b

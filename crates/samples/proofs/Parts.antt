@@ -9,7 +9,8 @@ use lib.ListN.{length, get_or}
 use Rattle.answer.proofs.Filling.{part, length_part, part_at}
 use Rattle.words.specs.Word.{word_at}
 use Rattle.words.proofs.Words.{word_same}
-use Rattle.samples.specs.Sample.{Strip, strip, Good, word_of, sample, difference, stored_at}
+use Rattle.samples.specs.Sample.{strip, Good, word_of, sample, difference, stored_at}
+use Rattle.samples.specs.declared.Strip.{Strip}
 use Rattle.samples.proofs.Strips.{row_words, per_row_lem}
 use Rattle.samples.proofs.Rows.{same_samples, same_differences}
 

@@ -11,7 +11,8 @@ use lib.ListN.{get_or}
 use Rattle.words.specs.Word.{modulus}
 use Rattle.words.proofs.Words.{word_same}
 use Rattle.laws.proofs.Groups.{into_group}
-use Rattle.samples.specs.Sample.{Strip, Good, alone, word_of, sample, difference}
+use Rattle.samples.specs.Sample.{Good, alone, word_of, sample, difference}
+use Rattle.samples.specs.declared.Strip.{Strip}
 use Rattle.samples.proofs.Sums.{in_row, sample-alone, sample-later, difference-alone, difference-later}
 use Rattle.samples.proofs.Strips.{per_row_lem, width_fits}
 

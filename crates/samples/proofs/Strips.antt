@@ -11,7 +11,8 @@ use Rattle.words.specs.Promises.{served}
 use Rattle.words.proofs.Served.{served-some}
 use native.Mathlib.Nat.{mod_self, zero-mod, dvd_of_mod-eq-zero, mod-eq-zero_of_dvd, dvd_trans, div-mul_cancel}
 use Rattle.laws.proofs.Groups.{group_room, groups-words}
-use Rattle.samples.specs.Sample.{Strip, strip, Good}
+use Rattle.samples.specs.Sample.{strip, Good}
+use Rattle.samples.specs.declared.Strip.{Strip}
 use Rattle.samples.specs.Promises.{strip_faults}
 
 module _ (bytes : ℕ) (g : Strip) (good : Good bytes g) where

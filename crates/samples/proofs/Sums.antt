@@ -10,7 +10,8 @@ use borrow.Author.Tests.{ltb-false}
 use lib.Dec.{ltb}
 use Rattle.answer.specs.Outcome.{pick}
 use Rattle.words.specs.Word.{modulus, plus, minus}
-use Rattle.samples.specs.Sample.{Strip, alone, summed, word_of, sample, difference}
+use Rattle.samples.specs.Sample.{alone, summed, word_of, sample, difference}
+use Rattle.samples.specs.declared.Strip.{Strip}
 use Rattle.laws.proofs.Says.{neither}
 
 -- a sample that is not alone has one `channels` before it in its row

@@ -16,7 +16,8 @@ use Rattle.answer.proofs.Promised.{second_over_first, stays, answer_once, done-s
 use Rattle.answer.proofs.Filling.{length-table}
 use Rattle.words.specs.Word.{Bytes, modulus}
 use Rattle.words.proofs.Words.{modulus_pos, word_below, plus_below, minus_below, plus-minus, minus_plus}
-use Rattle.samples.specs.Sample.{Strip, Good, alone, word_of, sample, difference, stored_at}
+use Rattle.samples.specs.Sample.{Good, alone, word_of, sample, difference, stored_at}
+use Rattle.samples.specs.declared.Strip.{Strip}
 use Rattle.samples.specs.Promises.{strip_faults, convert_faults, Converted, Forwarded}
 use Rattle.samples.proofs.Sums.{not_alone, sample-alone, sample-later, difference-alone, difference-later}
 use Rattle.samples.proofs.Stored.{stored-word, stored_same, stored_self}

@@ -3,7 +3,8 @@ use Rattle.std.specs.Prelude.{ℕ, ◌*◌, ◌%◌, ◌≡◌, Bool, not, List,
 use Rattle.answer.specs.Outcome.{Fault, unless, unsupported, invalid, output_too_small, Promise, outcome, Done}
 use Rattle.answer.specs.Table.{table}
 use Rattle.words.specs.Promises.{served}
-use Rattle.samples.specs.Sample.{Strip, word_of, sample, difference, stored_at}
+use Rattle.samples.specs.Sample.{word_of, sample, difference, stored_at}
+use Rattle.samples.specs.declared.Strip.{Strip}
 
 -- the faults of a strip's geometry (rule 3.6)
 abbrev pub strip_faults : ℕ → Strip → List Fault

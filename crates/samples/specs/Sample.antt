@@ -4,12 +4,8 @@ use Rattle.std.specs.Prelude.{ℕ, zero, suc, ◌-◌, ◌*◌, ◌/◌, ◌%◌
 use Rattle.answer.specs.Outcome.{pick}
 use Rattle.words.specs.Digits.{digit}
 use Rattle.words.specs.Word.{ordered, word_at, modulus, plus, minus}
-
--- a strip's geometry: bytes of a row, channels, and bytes of a word
-pub record Strip : Type 0 where
-  pub row : ℕ
-  pub channels : ℕ
-  pub width : ℕ
+-- a strip's geometry is the code's own: bytes of a row, channels, and bytes of a word
+use Rattle.samples.specs.declared.Strip.{Strip}
 
 abbrev pub strip : ℕ → ℕ → ℕ → Strip
 strip row channels width = record { row = row; channels = channels; width = width }

@@ -3,36 +3,38 @@
 
 ghost use Rattle.std.specs.Prelude.{◌≡◌};
 ghost use Rattle.answer.specs.Outcome.{xor};
-ghost use Rattle.samples.specs.Sample.{strip};
 ghost use Rattle.samples.specs.Promises.{StripChecked, Reordered};
 
 use answer::Refusal;
 
+// A strip's geometry: bytes of a row, samples of a pixel, and bytes of a sample.
+#[derive(Clone, Copy)]
+pub struct Strip {
+    pub row: usize,
+    pub channels: usize,
+    pub width: usize,
+}
+
 // Whether a strip of so many bytes has this geometry: whole rows, each of whole groups of a word for each channel.
-pub fn check_strip(
-    raw_len: usize,
-    row_bytes: usize,
-    channels: usize,
-    width: usize,
-) -> Result<(), Refusal>
-    ensures { StripChecked raw_len (strip row_bytes channels width) result }
+pub fn check_strip(raw_len: usize, strip: Strip) -> Result<(), Refusal>
+    ensures { StripChecked raw_len strip result }
 {
-    if !words::width_served(width) {
+    if !words::width_served(strip.width) {
         return Err(Refusal::Unsupported);
     }
-    if channels == 0 {
+    if strip.channels == 0 {
         return Err(Refusal::Unsupported);
     }
-    if 64 < channels {
+    if 64 < strip.channels {
         return Err(Refusal::Unsupported);
     }
-    if row_bytes == 0 {
+    if strip.row == 0 {
         return Err(Refusal::Unsupported);
     }
-    if row_bytes % (channels * width) != 0 {
+    if strip.row % (strip.channels * strip.width) != 0 {
         return Err(Refusal::Invalid);
     }
-    if raw_len % row_bytes != 0 {
+    if raw_len % strip.row != 0 {
         return Err(Refusal::Invalid);
     }
     Ok(())

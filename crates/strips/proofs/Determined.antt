@@ -5,7 +5,7 @@ use mathlib.Core.List.{List}
 use Prim.Native.Nat.{ℕ}
 use Rattle.answer.proofs.Promised.{answer_determined}
 use Rattle.answer.specs.Outcome.{Done}
-use Rattle.samples.specs.Sample.{Strip}
+use Rattle.samples.specs.declared.Strip.{Strip}
 use Rattle.samples.specs.Promises.{Converted, Forwarded}
 
 module _ (raw : List ℕ) (g : Strip) (predict le out_le : Bool) (old : List ℕ) (a b : Done) (x y : List ℕ) where

@@ -19,7 +19,8 @@ use Rattle.words.proofs.Words.{word_below, word-one}
 use Rattle.words.proofs.Puts.{put_length}
 use Rattle.swaps.specs.Swapped.{swapped_at, swap_faults, Swapped}
 use Rattle.transport.specs.Moved.{commit_faults, Committed, Reversed}
-use Rattle.samples.specs.Sample.{Strip, stored_at}
+use Rattle.samples.specs.Sample.{stored_at}
+use Rattle.samples.specs.declared.Strip.{Strip}
 use Rattle.samples.specs.Sample as Strips
 use Rattle.samples.specs.Promises.{strip_faults, convert_faults, Converted}
 use Rattle.samples.proofs.Strips.{good_checked, width_fits}

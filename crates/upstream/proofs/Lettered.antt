@@ -8,7 +8,8 @@ use lib.ListN.{length, get_or}
 use Rattle.answer.specs.Table.{table}
 use Rattle.swaps.specs.Swapped.{swapped_at}
 use Rattle.transport.specs.Moved.{reversed}
-use Rattle.samples.specs.Sample.{Strip, strip, sample, difference, stored_at}
+use Rattle.samples.specs.Sample.{strip, sample, difference, stored_at}
+use Rattle.samples.specs.declared.Strip.{Strip}
 use Rattle.damage.specs.Marks.{struck_at, marked, mark_byte, counted}
 use Rattle.layout.specs.declared.RasterLayout.{RasterLayout}
 use Rattle.layout.specs.Layout.{completed, encoded_width, plane_channels, planes, plane_length, scratch_length, output_length, colours, high_first, packed_index, plain_index}

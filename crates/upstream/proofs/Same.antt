@@ -22,7 +22,8 @@ use Rattle.words.proofs.Served.{served-one}
 use Rattle.words.proofs.Among.{OneOf}
 use Rattle.transport.specs.Moved as Moved
 use Rattle.samples.specs.Sample as Strips
-use Rattle.samples.specs.Sample.{Strip, alone, summed, word_of, stored_at}
+use Rattle.samples.specs.Sample.{alone, summed, word_of, stored_at}
+use Rattle.samples.specs.declared.Strip.{Strip}
 use Rattle.layout.specs.declared.RasterLayout.{RasterLayout}
 use Rattle.layout.specs.Layout as Ours
 use Rattle.layout.specs.Valid.{Valid as LayoutValid, Within}

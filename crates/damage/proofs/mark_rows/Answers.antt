@@ -4,15 +4,14 @@ use native.Mathlib.Omega.{arith}
 use Prim.Native.Nat.{◌+◌, ◌*◌, ◌/◌, ◌≤◌, ◌<◌}
 use lib.ListN.{length}
 use Rattle.laws.proofs.Groups.{turn_next, turn_room, turns_all}
-use Rattle.samples.specs.Sample.{strip}
 use Rattle.damage.proofs.MarkedRows.{strip-wide, strip-long, marks-room, row_fits, row_turned, count_room, rows_ended, rows_whole}
 use Rattle.damage.proofs.mark_rows.Goals.{In-loop-row}
 use Rattle.damage.proofs.mark_rows.Goals as goal
 
-more : (c : In-loop-row) → c.loop-row.row * c.args.row_bytes < length c.args.damage.now
-more c = omega (arith, turn_room c.loop-row.row c.args.row_bytes _ c.loop-row-test.true, strip-long c.requires)
+more : (c : In-loop-row) → c.loop-row.row * c.args.strip.row < length c.args.damage.now
+more c = omega (arith, turn_room c.loop-row.row c.args.strip.row _ c.loop-row-test.true, strip-long c.requires)
 
-free : (c : In-loop-row) → let args = c.args in c.loop-row.row * (args.row_bytes / args.width) + args.row_bytes / args.width ≤ length args.marks.now
+free : (c : In-loop-row) → let args = c.args in c.loop-row.row * (args.strip.row / args.strip.width) + args.strip.row / args.strip.width ≤ length args.marks.now
 free c = marks-room c.requires c.loop-row.invariant (more c)
 
 pub nonzero_div-row_marks : goal.nonzero_div-row_marks
@@ -36,9 +35,9 @@ overflow_add-count c =
 pub loop-row-preserved : goal.loop-row-preserved
 loop-row-preserved c =
     let args = c.args in
-    rw (turn_next c.loop-row.row args.row_bytes, turn_next c.loop-row.row (args.row_bytes / args.width))
+    rw (turn_next c.loop-row.row args.strip.row, turn_next c.loop-row.row (args.strip.row / args.strip.width))
     (row_turned c.requires c.loop-row.invariant (more (goal.at.loop-row-preserved c).In-loop-row) _ _ c.mark_row-count.ensures)
 
 pub returns : goal.returns
 returns c =
-    rows_ended c.requires c.loop-row.invariant (omega (arith, rows_whole c.requires, mul-le-mul_right c.args.row_bytes c.loop-row-test.false))
+    rows_ended c.requires c.loop-row.invariant (omega (arith, rows_whole c.requires, mul-le-mul_right c.args.strip.row c.loop-row-test.false))

@@ -4,7 +4,6 @@ use borrow.Author.Tests.{not-false}
 use Rattle.answer.specs.Outcome.{Fault, Sound}
 use Rattle.answer.proofs.Promised.{passed, finishes, sound-here}
 use Rattle.words.specs.Word.{Bytes}
-use Rattle.samples.specs.Sample.{strip}
 use Rattle.samples.specs.Promises.{convert_faults}
 use Rattle.samples.proofs.Strips.{good_checked, bytes-words}
 use Rattle.rows.specs.Row.{StripServed}
@@ -14,12 +13,12 @@ use Rattle.rows.proofs.transform_rows.Goals.{In_ok-checked}
 use Rattle.rows.proofs.transform_rows.Goals as goal
 
 -- the check found no fault
-sound : (c : In_ok-checked) → let faults : List Fault = let args = c.args in convert_faults args.raw.now (strip args.row_bytes args.channels args.width) args.out.now in Sound (faults)
+sound : (c : In_ok-checked) → let faults : List Fault = let args = c.args in convert_faults args.raw.now args.strip args.out.now in Sound (faults)
 sound c =
-    let faults : List Fault = let args = c.args in convert_faults args.raw.now (strip args.row_bytes args.channels args.width) args.out.now in
+    let faults : List Fault = let args = c.args in convert_faults args.raw.now args.strip args.out.now in
     passed faults c.checked.result c.checked.ensures c.in_ok-checked.was
 
-served_here : (c : In_ok-checked) → let args = c.args in StripServed args.raw.now (strip args.row_bytes args.channels args.width) args.out.now
+served_here : (c : In_ok-checked) → let args = c.args in StripServed args.raw.now args.strip args.out.now
 served_here c =
     strip-served _ _ _ (sound c)
 
@@ -30,9 +29,9 @@ every_row-requires c =
 pub returns-else-predict : goal.returns-else-predict
 returns-else-predict c =
     let bytes : Bytes c.args.raw.now = λ i. omega (arith, c.type_inv.raw i) in
-    let faults : List Fault = let args = c.args in convert_faults args.raw.now (strip args.row_bytes args.channels args.width) args.out.now in
+    let faults : List Fault = let args = c.args in convert_faults args.raw.now args.strip args.out.now in
     let args = c.args in
-    let g = strip args.row_bytes args.channels args.width in
+    let g = args.strip in
     let fits = served_here (goal.at.returns-else-predict c).In_ok-checked in
     rw c.if-predict.false
     (finishes faults tt (length args.raw.now) _ _ _ (sound (goal.at.returns-else-predict c).In_ok-checked)

@@ -9,14 +9,14 @@ use Rattle.words.proofs.Served.{served-some}
 use Rattle.samples.proofs.check_strip.Goals.{Else-not-width_served}
 use Rattle.samples.proofs.check_strip.Goals as goal
 
-allowed : (c : Else-not-width_served) → served c.args.width ≡ true
+allowed : (c : Else-not-width_served) → served c.args.strip.width ≡ true
 allowed c =
     sym c.width_served.ensures ∙ c.if-not-width_served.false
 
-pub overflow_mul-channels : goal.overflow_mul-channels
-overflow_mul-channels c =
-    record { fits = lt_of_le_of_lt (mul-le-mul c.if-channels-gt64.false (served-some _ (allowed (goal.at.overflow_mul-channels c).Else-not-width_served)).1) (lit< tt) }
+pub overflow_mul-strip : goal.overflow_mul-strip
+overflow_mul-strip c =
+    record { fits = lt_of_le_of_lt (mul-le-mul c.if-strip-gt64.false (served-some _ (allowed (goal.at.overflow_mul-strip c).Else-not-width_served)).1) (lit< tt) }
 
-pub nonzero_rem-row_bytes : goal.nonzero_rem-row_bytes
-nonzero_rem-row_bytes c =
-    mul-pos (omega arith) (served-some _ (allowed (goal.at.nonzero_rem-row_bytes c).Else-not-width_served)).0
+pub nonzero_rem-strip : goal.nonzero_rem-strip
+nonzero_rem-strip c =
+    mul-pos (omega arith) (served-some _ (allowed (goal.at.nonzero_rem-strip c).Else-not-width_served)).0

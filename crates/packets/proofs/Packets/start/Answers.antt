@@ -16,8 +16,7 @@ use Rattle.packets.proofs.Packets.start.Goals as goal
 pub returns-in-Ok : goal.returns-in-Ok
 unfolding state_at nowhere
 returns-in-Ok c =
-    let asked : Plan = let args = c.args in plan args.row_bytes args.channels args.width args.le args.predict args.out_le in
-    let p = asked in
+    let p = c.args.plan in
     let sound = passed (strip_faults 0 (geometry p)) c.check_strip.result c.check_strip.ensures c.in-Ok.is in
     let sane = sane_sound p sound in
     let place : 0 / p.width % (p.row_bytes / p.width) ≡ 0 = rw (zero-div p.width) (zero-mod (p.row_bytes / p.width)) in
