@@ -6,7 +6,10 @@ use Rattle.answer.proofs.Promised.{answer_once, place_once}
 use Rattle.answer.specs.declared.ByteAt.{ByteAt}
 use Rattle.layout.specs.declared.Fields.{Fields}
 use Rattle.layout.specs.declared.RasterLayout.{RasterLayout}
-use Rattle.layout.specs.Layout.{LayoutChecked, RecordChecked, Indexed}
+use Rattle.layout.specs.Layout.{colours_of, LayoutChecked, RecordChecked, Indexed}
+
+pub colours_determined : (slots a b : ℕ) → a ≡ colours_of slots → b ≡ colours_of slots → a ≡ b
+colours_determined slots a b p q = p ∙ sym q
 
 pub check_layout_determined : (f : Fields) (a b : Answer RasterLayout) → LayoutChecked f a → LayoutChecked f b → a ≡ b
 check_layout_determined f a b p q = answer_once a b (p ∙ sym q)

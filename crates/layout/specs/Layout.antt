@@ -25,8 +25,12 @@ scratch_length f = plane_length f * planes f
 unfoldable pub output_length : Fields → ℕ
 output_length f = f.w * f.h * f.ch * f.bytes
 
+-- colours of a palette whose indices stand so many in a byte
+abbrev pub colours_of : ℕ → ℕ
+colours_of slots = pick (eqb slots 8) 2 (pick (eqb slots 2) 16 256)
+
 unfoldable pub colours : Fields → ℕ
-colours f = pick (eqb f.slots 8) 2 (pick (eqb f.slots 2) 16 256)
+colours f = colours_of f.slots
 
 -- the full record
 abbrev pub completed : Fields → RasterLayout

@@ -1,8 +1,8 @@
 ghost use Rattle.std.specs.Prelude.{◌≡◌};
 ghost use Rattle.answer.specs.Outcome.{Sound};
-ghost use Rattle.layout.specs.Layout.{plane_channels, planes as planesOf, colours, layout_faults, completed};
+ghost use Rattle.layout.specs.Layout.{plane_channels, planes as planesOf, layout_faults, completed};
 
-use crate::{Fields, RasterLayout};
+use crate::{Fields, RasterLayout, colours};
 
 // Bytes of a place of a plane.
 #[tactic(auto, unfolding(crate::specs::Layout::plane_channels))]
@@ -26,20 +26,8 @@ fn planes(f: Fields) -> usize
     if f.separate { f.ch } else { 1 }
 }
 
-// Colours of the palette, if there is one.
-#[tactic(auto, unfolding(crate::specs::Layout::colours))]
-fn colors(f: Fields) -> usize
-    ensures { result ≡ colours f }
-{
-    match f.slots {
-        8 => 2,
-        2 => 16,
-        _ => 256,
-    }
-}
-
 // The record with what follows from its fields.
-#[tactic(auto, unfolding(crate::specs::Layout::encoded_width, crate::specs::Layout::plane_length, crate::specs::Layout::scratch_length, crate::specs::Layout::output_length))]
+#[tactic(auto, unfolding(crate::specs::Layout::encoded_width, crate::specs::Layout::plane_length, crate::specs::Layout::scratch_length, crate::specs::Layout::output_length, crate::specs::Layout::colours))]
 pub(crate) fn complete(f: Fields) -> RasterLayout
     requires { Sound (layout_faults f) }
     ensures { result ≡ completed f }
@@ -56,6 +44,6 @@ pub(crate) fn complete(f: Fields) -> RasterLayout
         plane_len,
         scratch_len: plane_len * planes,
         output_len: f.w * f.h * f.ch * f.bytes,
-        colors: colors(f),
+        colors: colours(f.slots),
     }
 }

@@ -9,11 +9,11 @@ mod source;
 
 ghost use Rattle.std.specs.Prelude.{◌≡◌};
 ghost use Rattle.answer.specs.Outcome.{Step};
-ghost use Rattle.layout.specs.Layout.{layout_faults, agreement, LayoutChecked, RecordChecked, Indexed};
+ghost use Rattle.layout.specs.Layout.{colours_of, layout_faults, agreement, LayoutChecked, RecordChecked, Indexed};
 
 use rules::{check_agreed, check_served, check_size};
 
-// What a caller says of a picture: all of a record that is not worked out.
+// What a caller says of a picture: all of a record that is not worked out. Kinds are numbers, since the check answers for those that are none.
 #[derive(Clone, Copy, PartialEq, Eq)]
 pub struct Fields {
     pub w: usize,
@@ -40,6 +40,17 @@ pub struct RasterLayout {
     pub scratch_len: usize,
     pub output_len: usize,
     pub colors: usize,
+}
+
+// Colours of a palette whose indices stand so many in a byte.
+pub fn colours(slots: usize) -> usize
+    ensures { result ≡ colours_of slots }
+{
+    match slots {
+        8 => 2,
+        2 => 16,
+        _ => 256,
+    }
 }
 
 // The three steps, in rule 5.3's order. The third multiplies, so it waits for what the first shows.

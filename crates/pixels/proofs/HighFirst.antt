@@ -31,10 +31,6 @@ pub some_bytes : {bytes : ℕ} → OneOrTwo bytes → 0 < bytes
 some_bytes (inl e) = omega arith
 some_bytes (inr e) = omega arith
 
-pub few_bytes : {bytes : ℕ} → OneOrTwo bytes → bytes ≤ 2
-few_bytes (inl e) = omega arith
-few_bytes (inr e) = omega arith
-
 pub one_byte : {bytes : ℕ} → OneOrTwo bytes → (bytes ≡ 2 → ⊥) → bytes ≡ 1
 one_byte (inl e) n = e
 one_byte (inr e) n = absurd (n e)

@@ -3,7 +3,7 @@ use Prim.Native.Nat.{ℕ, ◌+◌, ◌-◌, ◌*◌, ◌/◌, ◌≤◌, ◌<◌
 use mathlib.Core.Path.{◌≡◌, refl, sym, ap, ◌∙◌}
 use mathlib.Core.Bool.{Bool}
 use mathlib.Core.List.{List, ◌++◌}
-use native.Mathlib.Nat.{zero-mul, add-mul, one-mul, mul-pos, mod_self, div-add-mod', div-mul-le_self, mul-le-mul, mul-le-mul_right}
+use native.Mathlib.Nat.{zero-mul, add-mul, one-mul, mul-pos, mod_self, div-add-mod', div-mul-le_self, mul-le-mul_right}
 use native.Mathlib.Omega.{arith}
 use lib.ListN.{length, get_or, take, drop}
 use Rattle.answer.specs.Outcome.{pick}
@@ -14,7 +14,7 @@ use Rattle.answer.proofs.Filling.{length-stores, stores-on, stores-filled, lengt
 use Rattle.laws.proofs.Lists.{own_front}
 use Rattle.laws.proofs.Groups.{group_of, item_of}
 use Rattle.layout.specs.Layout.{byte_limit, high_first}
-use Rattle.pixels.proofs.HighFirst.{some_bytes, few_bytes, high_first_in, high_first_below}
+use Rattle.pixels.proofs.HighFirst.{some_bytes, high_first_in, high_first_below}
 use Rattle.pixels.specs.Render.{OneOrTwo, WordAt}
 use Rattle.rendering.specs.Rows.{plane_place, planes_at, PixelFits, PixelGathered, PlanesFit, PlanesInto}
 
@@ -72,10 +72,6 @@ module _ {raw : List ℕ} {plane_length place channels bytes : ℕ} {le : Bool} 
 
   pub channels_ended : channels ≤ c → PixelGathered raw plane_length place channels bytes le at old out
   channels_ended l = let all : c ≡ channels = omega (arith, is.inside) in rw all at is.so_far
-
--- a pixel has few bytes
-pub stride_few : {raw : List ℕ} {plane_length from channels bytes : ℕ} {out : List ℕ} → PlanesFit raw plane_length from channels bytes out → channels * bytes ≤ 8
-stride_few {channels = channels} {bytes = bytes} fits = mul-le-mul fits.few (few_bytes fits.width)
 
 -- the loop over the pixels of a row
 pub record GatheredPixels (raw : List ℕ) (plane_length from channels bytes : ℕ) (le : Bool) (old : List ℕ) (p : ℕ) (out : List ℕ) : Type 0 where

@@ -13,7 +13,7 @@ use Rattle.answer.proofs.Promised.{finished}
 use Rattle.answer.proofs.Filling.{part, length_part, part_at, table_same, filled-all}
 use Rattle.words.specs.Word.{word_at}
 use Rattle.layout.specs.declared.RasterLayout.{RasterLayout}
-use Rattle.layout.specs.Layout.{byte_limit, encoded_width, colours, packed, packed_index, source_index}
+use Rattle.layout.specs.Layout.{colours_of, byte_limit, encoded_width, colours, packed, packed_index, source_index}
 use Rattle.laws.proofs.Says.{held}
 use Rattle.layout.proofs.Accepted.{one_two_eight_lem, up_to_eight, bilevel}
 use Rattle.layout.proofs.Whole.{record_accepted, record_agreed}
@@ -22,7 +22,7 @@ use Rattle.pixels.specs.Render.{row_bytes, source, slot_shift, map_byte, palette
 use Rattle.laws.proofs.Groups.{group_of, item_of}
 use Rattle.pixels.proofs.Undo.{bilevel_converted}
 use Rattle.laws.proofs.Picks.{picked}
-use Rattle.slots.specs.Rows.{bilevel_at, bilevel_faults, BilevelRow, colours_of, palette_at, palette_faults, PaletteRow}
+use Rattle.slots.specs.Rows.{bilevel_at, bilevel_faults, BilevelRow, palette_at, palette_faults, PaletteRow}
 use Rattle.rendering.specs.Rows.{RowAsked, RowRendered}
 
 module _ {l : RasterLayout} {file raw : List ℕ} {y : ℕ} {out : List ℕ} (row : RowAsked l file raw y out) (is : packed l ≡ true) where

@@ -61,6 +61,7 @@ fn planes<const BYTES: usize>(
     }
 }
 
+// A row's bytes. Words of one or two bytes, as many as there is room for, are not refused.
 pub(crate) fn gather(l: RasterLayout, raw: &[u8], y: usize, out: &mut [u8])
     requires { PlainRowAsked l raw.now y out.old }
     ensures { Gathered l raw.now y out.old out.new }

@@ -13,6 +13,7 @@ ghost use Rattle.layout.specs.Layout.{packed as packedOf, record_faults};
 ghost use Rattle.pixels.specs.Render.{draw_faults, Rendered};
 ghost use Rattle.rendering.specs.Rows.{RenderServed, RowAsked, RowRendered, RowsRendered, Colours};
 
+// A row of indices or bits. Neither call refuses: what it would refuse was ruled out before.
 fn packed_row(l: RasterLayout, file: &[u8], raw: &[u8], y: usize, out: &mut [u8])
     requires { RowAsked l file.now raw.now y out.old × (packedOf l ≡ true) }
     ensures { RowRendered l file.now raw.now y out.old out.new }

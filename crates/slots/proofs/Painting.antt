@@ -10,13 +10,13 @@ use lib.Dec.{eqb}
 use borrow.Author.Tests.{eqb-true, ltb-false, not-false}
 use mathlib.Core.Logic.{inl, inr}
 use Rattle.answer.specs.Outcome.{pick, Sound, next, none}
-use Rattle.layout.specs.Layout.{one_two_eight}
+use Rattle.layout.specs.Layout.{one_two_eight, colours_of}
 use Rattle.layout.proofs.Accepted.{OneTwoEight, one_two_eight_lem}
 use Rattle.answer.specs.Table.{filled}
 use Rattle.answer.proofs.Filling.{length-stores, stores-filled, filled-same}
 use Rattle.words.specs.Word.{Bytes, word_at}
 use Rattle.pixels.specs.Render.{high_byte}
-use Rattle.slots.specs.Rows.{colours_of, index_at, palette_at, IndexAt, Painted, painted_at, PaintedInto, PaintFits, palette_faults}
+use Rattle.slots.specs.Rows.{index_at, palette_at, IndexAt, Painted, painted_at, PaintedInto, PaintFits, palette_faults}
 
 pub colours-few : (slots : ℕ) → (0 < colours_of slots) × (colours_of slots ≤ 256)
 colours-few slots = by (eqb slots 8) (eqb slots 2)

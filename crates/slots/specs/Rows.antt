@@ -5,7 +5,7 @@ use Rattle.answer.specs.Outcome.{Fault, unless, pick, unsupported, invalid, trun
 use Rattle.answer.specs.Table.{table, filled, stores}
 use Rattle.words.specs.Digits.{value}
 use Rattle.words.specs.Word.{word_at}
-use Rattle.layout.specs.Layout.{one_two_eight}
+use Rattle.layout.specs.Layout.{one_two_eight, colours_of}
 use Rattle.pixels.specs.Render.{slot_shift, bilevel_byte}
 use Rattle.pixels.specs.Planes.{bilevel_bit}
 
@@ -23,10 +23,6 @@ bilevel_faults raw old = truncated (ltb (length raw) (eighths (length old))) ∷
 abbrev pub BilevelRow : List ℕ → Bool → List ℕ → Done → List ℕ → Type 0
 BilevelRow raw white old answer new =
     Promise (unless (bilevel_faults raw old) tt) (table (length old) (bilevel_at white raw)) old (outcome answer) new
-
--- colours of a palette, as a layout's `colours`
-abbrev pub colours_of : ℕ → ℕ
-colours_of slots = pick (eqb slots 8) 2 (pick (eqb slots 2) 16 256)
 
 -- the palette index of column x
 abbrev pub index_at : ℕ → List ℕ → ℕ → ℕ

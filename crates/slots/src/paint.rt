@@ -1,18 +1,9 @@
 // Palette rows: one loop for every number of indices in a byte.
 ghost use Rattle.std.specs.Prelude.{◌≡◌, true, ◌+◌, ◌*◌, ◌/◌, ◌≤◌, ◌<◌, length};
 ghost use Rattle.layout.specs.Layout.{one_two_eight};
-ghost use Rattle.slots.specs.Rows.{colours_of, IndexAt, Painted, PaintFits, PaintedInto};
+ghost use Rattle.slots.specs.Rows.{IndexAt, Painted, PaintFits, PaintedInto};
 
-// Colours of the palette.
-pub(crate) fn colours(slots: usize) -> usize
-    ensures { result ≡ colours_of slots }
-{
-    match slots {
-        8 => 2,
-        2 => 16,
-        _ => 256,
-    }
-}
+use layout::colours;
 
 // A pixel's red, green and blue, each a third of the map further on.
 fn paint(file: &[u8], place: usize, step: usize, out: &mut [u8], at: usize)

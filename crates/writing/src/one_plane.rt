@@ -4,7 +4,7 @@ ghost use Rattle.writing.specs.Parts.{RowFlipped, PlainFits, PlainRowWritten, Ro
 
 use layout::RasterLayout;
 
-// White flips every byte but alpha's.
+// White flips every byte but alpha's. Whole pixels are not refused.
 fn flip_row(l: RasterLayout, s: &mut [u8])
     requires { WholePixels s.old l.fields.ch }
     ensures { RowFlipped l s.old s.new }
@@ -18,7 +18,7 @@ fn flip_row(l: RasterLayout, s: &mut [u8])
     }
 }
 
-// A row whose samples are bytes or words: its words in the planes' byte order.
+// A row whose samples are bytes or words: its words in the planes' byte order, for which there is room.
 fn plain_row(l: RasterLayout, row: &[u8], out: &mut [u8])
     requires { PlainFits l row.now out.old }
     ensures { PlainRowWritten l row.now out.old out.new }
@@ -27,7 +27,7 @@ fn plain_row(l: RasterLayout, row: &[u8], out: &mut [u8])
     flip_row(l, out);
 }
 
-// A row of the picture.
+// A row of the picture, for which there is room.
 fn write_row(l: RasterLayout, row: &[u8], out: &mut [u8])
     requires { RowGiven l row.now out.old }
     ensures { RowWritten l row.now out.old out.new }

@@ -10,7 +10,7 @@ loop-n-preserved c =
     let args = c.args in
     let is = c.loop-n.invariant in
     let n = c.loop-n.n in
-    let next = next_at n args.form.width in
-    let more : n * args.form.width < args.form.channels * args.form.width =
-    omega (arith, (served-some args.form.width c.requires.takes).0, next, mul-le-mul_right {m = n + 1} {n = args.form.channels} args.form.width (omega (arith, c.loop-n-test.true))) in
-    rw next (turned is c.requires.words more c.requires.room _ _ (c.get-v.ensures ∙ ap (λ (k : ℕ). word_at args.raw.now k args.form.width args.form.le) (sym (back_at is))) c.put.ensures)
+    let next = next_at n args.width in
+    let more : n * args.width < args.channels * args.width =
+    omega (arith, (served-some args.width c.requires.takes).0, next, mul-le-mul_right {m = n + 1} {n = args.channels} args.width (omega (arith, c.loop-n-test.true))) in
+    rw next (turned is c.requires.words more c.requires.room _ _ (c.get.ensures ∙ ap (λ (k : ℕ). word_at args.raw.now k args.width args.le) (sym (back_at is))) c.put.ensures)

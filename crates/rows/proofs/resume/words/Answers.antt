@@ -5,7 +5,7 @@ use Rattle.rows.proofs.resume.words.Goals.{In-loop-at}
 use Rattle.rows.proofs.resume.words.Goals as goal
 
 -- a whole word is there, and its channel's sum
-room : (c : In-loop-at) → c.loop-at.at + c.args.form.width ≤ length c.args.raw.now
+room : (c : In-loop-at) → c.loop-at.at + c.args.width ≤ length c.args.raw.now
 room c =
     run_room _ _ _ _ _ _ _ _ c.requires c.loop-at.invariant c.loop-at-test.true
 

@@ -4,7 +4,7 @@ use Rattle.rows.proofs.Running.{Running}
 use Rattle.rows.proofs.resume.words.Given as goal
 
 abbrev pub invariant-loop-at : goal.invariant-loop-at
-invariant-loop-at l = Running l.raw l.first l.form.channels l.form.width l.form.le l.form.out_le l.initial.sums l.initial.out l.sums l.out l.channel l.at
+invariant-loop-at l = Running l.raw l.first l.channels l.width l.le l.out_le l.initial.sums l.initial.out l.sums l.out l.channel l.at
 
 abbrev pub decreases-loop-at : goal.decreases-loop-at
 decreases-loop-at l = length l.raw - l.at
