@@ -45,15 +45,6 @@ pub high-few : (le : Bool) {n : ℕ} → n ≡ high_byte le → n ≤ 1
 high-few true e = omega arith
 high-few false e = omega arith
 
-pub high_first-one : (le : Bool) (c : ℕ) → high_first 1 le c ≡ c
-unfolding high_first
-high_first-one le c = refl
-
-pub high_first_two : (le : Bool) → (high_first 2 le 0 ≡ high_byte le) × (high_first 2 le 1 ≡ 1 - high_byte le)
-unfolding high_first
-high_first_two true = (refl, refl)
-high_first_two false = (refl, refl)
-
 -- words stand apart from words
 pub high_first_in : (bytes : ℕ) → OneOrTwo bytes → (le : Bool) (c b : ℕ) → high_first bytes le (c * bytes + b) ≡ c * bytes + high_first bytes le b
 unfolding high_first
