@@ -5,7 +5,7 @@ use mathlib.Core.List.{List}
 use Prim.Native.Nat.{ℕ}
 use Rattle.answer.proofs.Promised.{answer_determined}
 use Rattle.answer.specs.Outcome.{Done}
-use Rattle.pixels.specs.Render.{flipped, high_byte, WordAt}
+use Rattle.pixels.specs.Render.{flipped, high_byte, Turned}
 use Rattle.pixels.specs.Finish.{Inverted, Straightened}
 
 pub flip_determined : (white : Bool) (v a b : ℕ) → a ≡ flipped white v → b ≡ flipped white v → a ≡ b
@@ -14,8 +14,8 @@ flip_determined white v a b p q = p ∙ sym q
 pub high_determined : (le : Bool) (a b : ℕ) → a ≡ high_byte le → b ≡ high_byte le → a ≡ b
 high_determined le a b p q = p ∙ sym q
 
-pub word_determined : (s : List ℕ) (at bytes : ℕ) (le : Bool) (a b : List ℕ) → WordAt s at bytes le a → WordAt s at bytes le b → a ≡ b
-word_determined s at bytes le a b p q = p ∙ sym q
+pub word_determined : (bytes : ℕ) (stored : List ℕ) (le : Bool) (a b : List ℕ) → Turned bytes stored le a → Turned bytes stored le b → a ≡ b
+word_determined bytes stored le a b p q = p ∙ sym q
 
 pub invert_determined : (old x y : List ℕ) → Inverted old x → Inverted old y → x ≡ y
 invert_determined old x y p q = p ∙ sym q

@@ -17,7 +17,8 @@ use Rattle.samples.proofs.Orders.{same_order, other_order}
 use Rattle.layout.specs.declared.RasterLayout.{RasterLayout}
 use Rattle.layout.specs.Layout.{record_faults, high_first}
 use Rattle.layout.proofs.Whole.{record_accepted}
-use Rattle.pixels.specs.Render.{high_byte, OneOrTwo}
+use Rattle.answer.proofs.Filling.{part, part_at, table_same}
+use Rattle.pixels.specs.Render.{high_byte, OneOrTwo, Turned, WordAt}
 
 -- a width that a record has, and that is not 8
 pub one_or_two : (l : RasterLayout) → Sound (record_faults l) → eqb l.fields.bytes 8 ≡ false → OneOrTwo l.fields.bytes
@@ -92,3 +93,17 @@ high_first-turned (inr e) b h = rw e (omega arith)
 pub word_from : {bytes : ℕ} (le : Bool) {b from : ℕ} → OneOrTwo bytes → b < bytes → ((le ≡ true) × (from ≡ bytes - 1 - b)) ⊎ ((le ≡ false) × (from ≡ b)) → from ≡ high_first bytes le b
 word_from {bytes} le {b} width h (inl w) = rw w.0 (w.1 ∙ sym (high_first-turned width b h))
 word_from {bytes} le {b} width h (inr w) = rw w.0 (w.1 ∙ high_first-same bytes b)
+
+-- a word that was read from a place, turned or not, is the word there
+pub word_read : (s : List ℕ) (at bytes : ℕ) (le : Bool) (stored word : List ℕ) → OneOrTwo bytes → stored ≡ part at (at + bytes) s → Turned bytes stored le word → WordAt s at bytes le word
+word_read s at bytes le stored word width is turned =
+    turned
+    ∙ table_same bytes _ _ (λ b h. ap (λ (l : List ℕ). get_or l (pick le (bytes - 1 - b) b) 0) is ∙ part_at at (at + bytes) s (pick le (bytes - 1 - b) b) (below le b h) ∙ ap (λ (n : ℕ). get_or s (at + n) 0) (first le b h))
+  where
+    first : (le : Bool) (b : ℕ) → b < bytes → pick le (bytes - 1 - b) b ≡ high_first bytes le b
+    first true b h = word_from true width h (inl (refl, refl))
+    first false b h = word_from false width h (inr (refl, refl))
+
+    below : (le : Bool) (b : ℕ) → b < bytes → pick le (bytes - 1 - b) b < at + bytes - at
+    below true b h = omega arith
+    below false b h = omega arith

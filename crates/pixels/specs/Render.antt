@@ -38,6 +38,10 @@ high_byte le = pick le 1 0
 abbrev pub OneOrTwo : ℕ → Type 0
 OneOrTwo bytes = (bytes ≡ 1) ⊎ (bytes ≡ 2)
 
+-- a word's bytes, turned if `le`
+abbrev pub Turned : ℕ → List ℕ → Bool → List ℕ → Type 0
+Turned bytes stored le word = word ≡ table bytes (λ b. get_or stored (pick le (bytes - 1 - b) b) 0)
+
 -- the bytes of a word at a place, turned where the stored one is little-endian
 abbrev pub WordAt : List ℕ → ℕ → ℕ → Bool → List ℕ → Type 0
 WordAt s at bytes le word = word ≡ table bytes (λ b. get_or s (at + high_first bytes le b) 0)

@@ -5,7 +5,7 @@ mod shares;
 
 ghost use Rattle.std.specs.Prelude.{◌≡◌, ◌+◌, ◌≤◌, true, length};
 ghost use Rattle.laws.specs.Tabled.{Tabled};
-ghost use Rattle.pixels.specs.Render.{flipped, high_byte, OneOrTwo, WordAt};
+ghost use Rattle.pixels.specs.Render.{flipped, high_byte, Turned};
 ghost use Rattle.pixels.specs.Finish.{Inverted, share_of, StraightBy, ColourBy, PixelGiven, WholePixels, PixelStraightened, PixelsStraightened, Straightened};
 
 use crate::shares::SHARES;
@@ -25,15 +25,14 @@ pub fn high(le: bool) -> usize
     if le { 1 } else { 0 }
 }
 
-// The word of one or two bytes at a place, as the picture has it of a stored one or the other way round: turned where that is little-endian.
-pub fn word<const BYTES: usize>(s: &[u8], at: usize, le: bool) -> [u8; BYTES]
-    requires { OneOrTwo BYTES × (at + BYTES ≤ length s.now) }
-    ensures { WordAt s.now at BYTES le result }
+// A stored word's bytes as the picture has them, or a picture's as they are stored: turned where that is little-endian.
+pub fn word<const BYTES: usize>(stored: [u8; BYTES], le: bool) -> [u8; BYTES]
+    ensures { Turned BYTES stored.entry le result }
 {
-    let mut word = [0; BYTES];
+    let mut word = stored;
     for b in 0..BYTES {
         let from = if le { BYTES - 1 - b } else { b };
-        word[b] = s[at + from];
+        word[b] = stored[from];
     }
     word
 }

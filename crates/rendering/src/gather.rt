@@ -17,7 +17,10 @@ fn pixel<const CHANNELS: usize, const BYTES: usize>(
     ensures { PixelGathered raw.now plane_len place CHANNELS BYTES le at out.old out.new }
 {
     for c in 0..CHANNELS {
-        let word = pixels::word::<BYTES>(raw, place + c * plane_len, le);
+        let from = place + c * plane_len;
+        let mut stored = [0; BYTES];
+        stored.copy_from_slice(&raw[from..from + BYTES]);
+        let word = pixels::word(stored, le);
         let to = at + c * BYTES;
         let end = to + BYTES;
         out[to..end].copy_from_slice(&word);

@@ -18,7 +18,10 @@ fn channel_of<const BYTES: usize>(
     ensures { ChannelInto picture.now first stride BYTES le out.old out.new }
 {
     for p in 0..out.len() / BYTES {
-        let word = pixels::word::<BYTES>(picture, first + p * stride, le);
+        let from = first + p * stride;
+        let mut shown = [0; BYTES];
+        shown.copy_from_slice(&picture[from..from + BYTES]);
+        let word = pixels::word(shown, le);
         let at = p * BYTES;
         let end = at + BYTES;
         out[at..end].copy_from_slice(&word);

@@ -3,4 +3,4 @@ use Rattle.capi.proofs.Telling.{lent_as}
 use Rattle.capi.proofs.hamrisk_marks.Goals as goal
 
 pub returns : goal.returns
-returns c = lent_as c.lend.ensures c.marks.ensures
+returns c = lent_as c.lend.ensures (rw c.strip_of-strip.ensures at c.marks.ensures)
