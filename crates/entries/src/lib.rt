@@ -22,7 +22,8 @@ pub struct Directory {
 }
 
 // A field: the entry at which its tag stands or would stand, whether it is there, its type, how many values it has and where they stand, and
-// the number in the entry, which is the value where there is one.
+// the number in the entry, which is the value where there is one. A missing field has all of these too (`missing`), so that it is read as any other: it is
+// no Option.
 #[derive(Clone, Copy)]
 pub struct Field {
     pub entry: usize,

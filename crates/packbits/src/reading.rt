@@ -99,6 +99,7 @@ pub(crate) fn fill_row(packed: &[u8], row: &mut [u8])
     requires { RowFits packed.now row.old }
     ensures { RowFilled packed.now row.old row.new }
 {
+    // Packet by packet, each as long as it says: no index is counted.
     let mut at: usize = 0;
     let mut from: usize = 0;
     while from < row.len() {
