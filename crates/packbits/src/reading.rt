@@ -63,7 +63,7 @@ pub(crate) fn check_packet(packed: &[u8], at: usize, left: usize) -> Result<(), 
         return Err(Refusal::Truncated);
     }
     let header = Header::from(packed[at]);
-    // Both at once: a step of `?` between them, which is a branch, ran at 0.77 of this.
+    // Both at once: a step of `?` between them, which is a branch, ran at 0.62 of this.
     first_of(
         fault(left < header.fills(), Refusal::Invalid),
         fault(there < header.takes(), Refusal::Truncated),
