@@ -16,7 +16,7 @@ use pages::{Whole, open_page};
 use strips::{Strips, check_strip, check_strips, fill_parts, length_of, place_of};
 
 // A page: its layout, how its rows were predicted (1: not; 2: by the sample before), how many strips it has, and how they are
-// compressed (1: not; 32773: PackBits).
+// compressed (1: not; 32773: PackBits). Both are the file's numbers, which C is handed.
 #[derive(Clone, Copy)]
 pub struct Page {
     pub layout: RasterLayout,

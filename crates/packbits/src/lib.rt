@@ -21,6 +21,7 @@ use writing::{put_literals, put_plan};
 pub fn row_used(packed: &[u8], row_bytes: usize) -> Result<usize, Refusal>
     ensures { RowMeasured packed.now row_bytes result }
 {
+    // Packet by packet, each as long as it says: no index is counted.
     let mut at: usize = 0;
     let mut left = row_bytes;
     while 0 < left {
@@ -68,7 +69,8 @@ pub fn unpack_row(packed: &[u8], row: &mut [u8]) -> Result<usize, Refusal>
     Ok(n)
 }
 
-// A row as its plan has it: packet k is a literal (kind 0) or a repeat (1) of the row's next so many bytes.
+// A row as its plan has it: packet k is a literal (kind 0) or a repeat (1) of the row's next so many bytes. Two lists of bytes, as
+// `hamrisk_write_plan_lists` is lent them.
 pub fn write_plan(
     row: &[u8],
     kinds: &[u8],

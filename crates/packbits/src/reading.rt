@@ -63,7 +63,7 @@ pub(crate) fn check_packet(packed: &[u8], at: usize, left: usize) -> Result<(), 
         return Err(Refusal::Truncated);
     }
     let header = Header::from(packed[at]);
-    // Both at once: a step of `?` between them, which is a branch, ran at 0.77 of this.
+    // Both at once: a step of `?` between them, which is a branch, ran at 0.62 of this.
     first_of(
         fault(left < header.fills(), Refusal::Invalid),
         fault(there < header.takes(), Refusal::Truncated),
@@ -99,6 +99,7 @@ pub(crate) fn fill_row(packed: &[u8], row: &mut [u8])
     requires { RowFits packed.now row.old }
     ensures { RowFilled packed.now row.old row.new }
 {
+    // Packet by packet, each as long as it says: no index is counted.
     let mut at: usize = 0;
     let mut from: usize = 0;
     while from < row.len() {

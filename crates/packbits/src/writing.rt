@@ -54,6 +54,7 @@ pub(crate) fn put_literals(row: &[u8], out: &mut [u8])
     requires { LiteralsFit row.now out.old }
     ensures { LiteralsPut row.now out.new }
 {
+    // Two places that go on together, of the row and of the output, a literal at a time.
     let mut at: usize = 0;
     let mut to: usize = 0;
     while at < row.len() {

@@ -19,6 +19,8 @@ use extras::{Extras, is_palette};
 use shape::Shape;
 use split::Split;
 
+// The values of tags stay the file's numbers, of which it can have any: definitions such as `is_palette` and `served_compression` speak of them so.
+
 // What a page's tags say: its layout, its predictor, its compression, its rows and those of a strip, and where its strips' places and lengths stand.
 #[derive(Clone, Copy)]
 pub struct Tags {
