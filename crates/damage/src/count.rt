@@ -22,6 +22,7 @@ pub(crate) fn total(marks: &[u8]) -> usize
 {
     let mut sum: usize = 0;
     let mut n: usize = 0;
+    // By hand: the last block is shorter, and a turn needs its end either way.
     while n < marks.len() {
         let end = blocks::block_end(n, marks.len(), 224);
         let more = few(&marks[n..end]) as usize;

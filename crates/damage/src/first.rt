@@ -21,6 +21,7 @@ fn sound_blocks(damage: &[u8]) -> usize
     ensures { SoundTo damage.now result × (result ≤ length damage.now) }
 {
     let mut at: usize = 0;
+    // By hand: the last block is shorter, and the place where one begins is the answer.
     while at < damage.len() {
         let end = blocks::block_end(at, damage.len(), 512);
         if !sound(&damage[at..end]) {
