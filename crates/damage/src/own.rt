@@ -1,5 +1,5 @@
 // The marks of samples from their own bytes. The bytes of a sample are read in a straight line, byte p at `at + p`, as a word's definition has
-// them, and joined to a word, which is 0 exactly if they all are.
+// them, and joined to a word, which is 0 exactly if they all are. A function for each width, as in `words`: those need a premise, and so are private there.
 ghost use Rattle.std.specs.Prelude.{◌≡◌, true, ◌+◌, ◌≤◌, length};
 ghost use Rattle.words.specs.Promises.{served};
 ghost use Rattle.words.specs.Word.{word_at};

@@ -53,6 +53,7 @@ fn in_row(plan: Plan, received: usize, place: usize, raw: &[u8], sums: &mut [u64
     ensures { WordsFed plan received raw.now sums.old out.old sums.new out.new }
 {
     let first = whole(place, plan.width) % plan.channels;
+    // past every refusal, so it has none
     let _ = rows::resume_row(
         raw,
         first,
@@ -80,6 +81,7 @@ fn from_row(plan: Plan, received: usize, raw: &[u8], sums: &mut [u64], out: &mut
         channels: plan.channels,
         width: plan.width,
     };
+    // past every refusal, so it has none
     let _ = strips::convert(
         &raw[start..rows],
         strip,
@@ -140,6 +142,7 @@ fn words(plan: Plan, received: usize, raw: &[u8], sums: &mut [u64], out: &mut [u
     if plan.predict {
         return predicted(plan, received, raw, sums, out);
     }
+    // past every refusal, so it has none
     let _ = samples::reorder(raw, plan.width, plan.le, plan.out_le, out);
 }
 
@@ -176,6 +179,7 @@ fn word(plan: Plan, received: usize, raw: &[u8], sums: &mut [u64], out: &mut [u8
         let place = received % plan.row_bytes;
         return in_row(plan, received, place, raw, sums, out);
     }
+    // past every refusal, so it has none
     let _ = samples::reorder(raw, plan.width, plan.le, plan.out_le, out);
 }
 

@@ -27,7 +27,8 @@ fn pixel<const CHANNELS: usize, const BYTES: usize>(
     }
 }
 
-// A row of pixels whose channels stand in planes of their own.
+// A row of pixels whose channels stand in planes of their own. What tells where they are comes one by one: from a struct the compiler made no
+// vectors of planes of one byte, 23.6 µs for 64 KiB in place of 2.6.
 fn pixels_apart<const CHANNELS: usize, const BYTES: usize>(
     raw: &[u8],
     plane_len: usize,

@@ -45,6 +45,7 @@ fn transform_words(raw: &[u8], form: Form, predict: bool, forward: bool, out: &m
             few::rows(raw, raw.len(), form, &none, out)
         }
     } else {
+        // past every refusal, so it has none
         let _ = samples::reorder(raw, form.width, form.le, form.out_le, out);
     }
 }
@@ -108,6 +109,7 @@ pub fn transform_rows(
         };
         every_row(raw, strip.row, form, forward, out);
     } else {
+        // past every refusal, so it has none
         let _ = samples::reorder(raw, strip.width, le, out_le, out);
     }
     Ok(())
