@@ -3,20 +3,10 @@ ghost use Rattle.std.specs.Prelude.{◌≡◌};
 ghost use Rattle.answer.specs.Outcome.{outcome};
 ghost use Rattle.directory.specs.Page.{DirectoryRead, StripPlaced, StripsPlaced};
 ghost use Rattle.capi.specs.Told.{Told, Lent};
-ghost use Rattle.capi.specs.OnPages.{flag_of, numbers_of, found_numbers, place_numbers};
+ghost use Rattle.capi.specs.OnPages.{numbers_of, found_numbers, place_numbers};
 
 use crate::status;
 use directory::Page;
-
-// A flag as a number.
-pub(crate) fn flag(on: bool) -> usize
-    ensures { result ≡ flag_of on }
-{
-    match on {
-        true => 1,
-        false => 0,
-    }
-}
 
 // A page's layout, what follows from it, its predictor, its number of strips, and its compression.
 fn numbers_of(p: Page) -> [usize; 21]
@@ -24,10 +14,10 @@ fn numbers_of(p: Page) -> [usize; 21]
 {
     let l = p.layout;
     let f = l.fields;
-    let palette = flag(f.palette);
-    let separate = flag(f.separate);
-    let le = flag(f.le);
-    let white = flag(f.white);
+    let palette = usize::from(f.palette);
+    let separate = usize::from(f.separate);
+    let le = usize::from(f.le);
+    let white = usize::from(f.white);
     [
         f.w,
         f.h,

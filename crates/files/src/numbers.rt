@@ -23,13 +23,24 @@ impl From<Kind> for usize {
     }
 }
 
-// The low two bytes of any number.
+// The low bytes of any number.
+fn put<const BYTES: usize>(out: &mut [u8], at: usize, v: usize)
+    requires { at + BYTES ≤ length out.old }
+    ensures { Put out.old at BYTES true v out.new }
+{
+    let mut rest = v;
+    for p in 0..BYTES {
+        out[at + p] = (rest % 256) as u8;
+        rest /= 256;
+    }
+}
+
+// The low two.
 pub(crate) fn put_short(out: &mut [u8], at: usize, v: usize)
     requires { at + 2 ≤ length out.old }
     ensures { Put out.old at 2 true v out.new }
 {
-    out[at + 0] = (v / 1 % 256) as u8;
-    out[at + 1] = (v / 256 % 256) as u8;
+    put::<2>(out, at, v)
 }
 
 // The low four.
@@ -37,10 +48,7 @@ pub(crate) fn put_long(out: &mut [u8], at: usize, v: usize)
     requires { at + 4 ≤ length out.old }
     ensures { Put out.old at 4 true v out.new }
 {
-    out[at + 0] = (v / 1 % 256) as u8;
-    out[at + 1] = (v / 256 % 256) as u8;
-    out[at + 2] = (v / 65536 % 256) as u8;
-    out[at + 3] = (v / 16777216 % 256) as u8;
+    put::<4>(out, at, v)
 }
 
 // An entry: its tag, its type, how many values it has, and its last four bytes.

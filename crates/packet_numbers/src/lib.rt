@@ -5,17 +5,10 @@
 ghost use Rattle.std.specs.Prelude.{◌≡◌, length, get_or};
 ghost use Rattle.words.specs.Digits.{value};
 ghost use Rattle.words.specs.Word.{Bytes};
-ghost use Rattle.packet_numbers.specs.Numbers.{flag_of, tail_of, sums_in, plan_in, state_of, all_unused, strays as straysOf, with_sums, Stands, PieceOn, CloseOn};
+ghost use Rattle.packet_numbers.specs.Numbers.{tail_of, sums_in, plan_in, state_of, all_unused, strays as straysOf, with_sums, Stands, PieceOn, CloseOn};
 
 use answer::Refusal;
 use packets::{Packets, Plan};
-
-// A flag as a number.
-fn flag(on: bool) -> u64
-    ensures { result ≡ flag_of on }
-{
-    if on { 1 } else { 0 }
-}
 
 // The eight bytes of a number, the least significant first.
 fn tail_of(v: u64) -> [u8; 8]
@@ -123,9 +116,9 @@ pub fn numbers_of(state: Packets) -> [u64; 80]
     s[0] = plan.row_bytes as u64;
     s[1] = plan.channels as u64;
     s[2] = plan.width as u64;
-    s[3] = flag(plan.le);
-    s[4] = flag(plan.predict);
-    s[5] = flag(plan.out_le);
+    s[3] = u64::from(plan.le);
+    s[4] = u64::from(plan.predict);
+    s[5] = u64::from(plan.out_le);
     s[6] = state.received as u64;
     s[7] = word_of(&tail);
     s
