@@ -10,6 +10,7 @@ use borrow.Author.Tests.{eq-eqb, ne_eqb, eqb-true, ltb-false, not-false}
 use lib.Dec.{ltb, eqb}
 use lib.ListN.{length, get_or, set, length-set}
 use lib.Seq.{ext_get_or, get_or-set_same, get_or-set_other}
+use Rattle.std.specs.Int.{from_bool}
 use Rattle.answer.specs.Table.{table, stores}
 use Rattle.answer.proofs.Filling.{part, part_table, length-table, table_at, table_same, table_self, length-stores, stores_at, stores_rest}
 use Rattle.words.specs.Digits.{digit, value}
@@ -37,7 +38,11 @@ pub unused-all : (s : List ℕ) {n : ℕ} {none : Bool} → n ≤ 8 → 8 ≤ n 
 unfolding all_unused
 unused-all s {n} low high e = let all : n ≡ 8 = omega arith in e ∙ ap (λ (m : ℕ). every m (unused s)) all
 
--- a flag's number, read as a flag
+-- a flag's number, and that number read as a flag
+pub flag_is : (b : Bool) → from_bool b ≡ flag_of b
+flag_is true = refl
+flag_is false = refl
+
 flag_back : (b : Bool) → not (eqb (flag_of b) 0) ≡ b
 flag_back true = refl
 flag_back false = refl
