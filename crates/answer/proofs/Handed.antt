@@ -5,8 +5,7 @@ use Rattle.std.proofs.lemmas.Result.{err_from_is_err_and}
 use mathlib.Core.Path.{◌≡◌, ap, ◌∙◌}
 use mathlib.Core.List.{List, ◌++◌}
 use Rattle.answer.specs.declared.Refusal.{Refusal}
-use Rattle.answer.specs.declared.ByteAt.{ByteAt}
-use Rattle.answer.specs.Outcome.{Answer, Done, refused, Fault, number, outcome, place_outcome, Step}
+use Rattle.answer.specs.Outcome.{Answer, Done, refused, Fault, number, outcome, Step}
 use Rattle.answer.proofs.Promised.{refusing, first_more, step-first}
 
 abbrev pub Handed : {A : Type 0} → Answer A → Refusal → Type 0
@@ -18,9 +17,6 @@ handed r k h = let e = err_from_is_err_and r h.1 in e.1 ∙ ap Err e.2
 -- so it comes to the number of that refusal
 pub handed_outcome : {A : Type 0} (r : Answer A) (k : Refusal) → Handed r k → outcome r ≡ refused (number k)
 handed_outcome r k h = ap outcome (handed r k h)
-
-pub handed_place : (r : Answer ByteAt) (k : Refusal) → Handed r k → place_outcome r ≡ refused (number k)
-handed_place r k h = ap place_outcome (handed r k h)
 
 -- the first step's refusal, whatever is looked for after it
 pub step-handed : {fs : List Fault} (gs : List Fault) {a : Done} {r : Done} {k : Refusal} → Step fs a → a ≡ Err k → Handed r k → Step (fs ++ gs) r

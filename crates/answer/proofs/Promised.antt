@@ -1,7 +1,6 @@
 -- What every promise gives: one answer and one content of the buffer, which a refusal leaves as it was and success changes at its front alone;
 -- and of a list of faults: the refusal given is that of the first fault, and is given only then. Assumes nothing.
 use Rattle.std.specs.Prelude.{Ok, Err}
-use Prim.{Unit}
 use Rattle.std.specs.Result.{is_err}
 use Prim.Native.Nat.{ℕ, zero, suc, ◌≤◌}
 use mathlib.Core.Path.{◌≡◌, refl, sym, ap, ◌∙◌}

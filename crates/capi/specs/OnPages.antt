@@ -36,5 +36,5 @@ found_numbers answer = taking numbers_of (outcome answer)
 abbrev pub pair_of : Part → ℕ × ℕ
 pair_of p = (p.at, p.bytes)
 
-abbrev pub place_numbers : (Answer (ByteAt × ℕ)) → Outcome (ℕ × ℕ)
+abbrev pub place_numbers : Answer (ByteAt × ℕ) → Outcome (ℕ × ℕ)
 place_numbers answer = taking pair_of (place_outcome answer)

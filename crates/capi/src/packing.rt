@@ -1,5 +1,4 @@
 // The calls on PackBits rows.
-ghost use Rattle.std.specs.Prelude.{◌≡◌};
 ghost use Rattle.answer.specs.Outcome.{outcome};
 ghost use Rattle.packbits.specs.Rows.{RowUnpacked};
 ghost use Rattle.packbits.specs.Plans.{PlanWritten, RowPacked};

@@ -98,7 +98,7 @@ page_of file d =
       compression = (tags_of file d).compression;
     }
 
-abbrev pub place_outcome : (Answer (ByteAt × ℕ)) → Outcome Part
+abbrev pub place_outcome : Answer (ByteAt × ℕ) → Outcome Part
 place_outcome (Ok p) = done (record { at = p.0.0; bytes = p.1 })
 place_outcome (Err k) = refused (number k)
 
@@ -121,7 +121,7 @@ DirectoryRead file page answer = outcome answer ≡ unless (read_faults file pag
 abbrev pub placed : List ℕ → ℕ → ℕ → Outcome Part
 placed file page k = unless (place_faults file page k) (strip_part file (page_strips file (directory file page)) k)
 
-abbrev pub StripPlaced : List ℕ → ℕ → ℕ → (Answer (ByteAt × ℕ)) → Type 0
+abbrev pub StripPlaced : List ℕ → ℕ → ℕ → Answer (ByteAt × ℕ) → Type 0
 StripPlaced file page k answer = place_outcome answer ≡ placed file page k
 
 abbrev pub StripCut : List ℕ → ℕ → ℕ → List ℕ → Type 0

@@ -29,7 +29,7 @@ page_by w =
     record { layout = w.layout; predictor = w.predictor; strips = w.strips.offsets.count; compression = w.compression }
 
 -- one strip, and all strips' places and lengths, of a page past its other faults
-abbrev pub OnePlaced : List ℕ → Strips → ℕ → (Answer (ByteAt × ℕ)) → Type 0
+abbrev pub OnePlaced : List ℕ → Strips → ℕ → Answer (ByteAt × ℕ) → Type 0
 OnePlaced file s k answer = place_outcome answer ≡ unless (one_faults file s k) (strip_part file s k)
 
 abbrev pub PartsPlaced : List ℕ → Strips → List ℕ → Done → List ℕ → Type 0

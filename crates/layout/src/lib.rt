@@ -9,7 +9,7 @@ mod source;
 
 ghost use Rattle.std.specs.Prelude.{◌≡◌};
 ghost use Rattle.answer.specs.Outcome.{Step};
-ghost use Rattle.layout.specs.Layout.{colours_of, layout_faults, agreement, LayoutChecked, RecordChecked, Indexed};
+ghost use Rattle.layout.specs.Layout.{colours_of, layout_faults, LayoutChecked, RecordChecked, Indexed};
 
 use rules::{check_agreed, check_served, check_size};
 

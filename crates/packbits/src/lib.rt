@@ -8,7 +8,7 @@ mod plans;
 mod reading;
 mod writing;
 
-ghost use Rattle.std.specs.Prelude.{◌≡◌, ◌+◌, ◌/◌, length, eqb};
+ghost use Rattle.std.specs.Prelude.{◌≡◌, ◌+◌, eqb};
 ghost use Rattle.answer.specs.Outcome.{pick};
 ghost use Rattle.packbits.specs.Rows.{RowMeasured, RowUnpacked, RowsChecked};
 ghost use Rattle.packbits.specs.Plans.{literals_of, PlanWritten, RowPacked};

@@ -3,7 +3,7 @@
 
 mod shares;
 
-ghost use Rattle.std.specs.Prelude.{◌≡◌, ◌+◌, ◌≤◌, true, length};
+ghost use Rattle.std.specs.Prelude.{◌≡◌, ◌+◌, true};
 ghost use Rattle.laws.specs.Tabled.{Tabled};
 ghost use Rattle.pixels.specs.Render.{flipped, high_byte, Turned};
 ghost use Rattle.pixels.specs.Finish.{Inverted, share_of, StraightBy, ColourBy, PixelGiven, WholePixels, PixelStraightened, PixelsStraightened, Straightened};

@@ -1,11 +1,11 @@
 -- The loop over the pixels of a row of N channels: the sums of a pixel's channels, and what is stored of it. Assumes nothing.
-use Rattle.std.proofs.Common.{◌≡◌, ℕ, ◌+◌, ◌*◌, ◌/◌, ◌%◌, ◌<◌, ◌≤◌, Bool, List, length, get_or, set, take, sym, ◌∙◌, mul_assoc, add-mul, one-mul, zero-mul, mul-le-mul_right, mul-div_cancel, le-div_iff_mul-le, div-add-mod', mul-pos, length-set, get_or-set_same, get_or-set_other, get_or-take, arith}
+use Rattle.std.proofs.Common.{◌≡◌, ℕ, ◌+◌, ◌*◌, ◌/◌, ◌%◌, ◌<◌, ◌≤◌, Bool, List, length, get_or, set, take, sym, ◌∙◌, mul_assoc, add-mul, one-mul, zero-mul, mul-le-mul_right, mul-div_cancel, le-div_iff_mul-le, mul-pos, length-set, get_or-set_same, get_or-set_other, get_or-take, arith}
 use native.Mathlib.Decide.{dec_lt}
 use Rattle.std.proofs.lemmas.List.{length-take-le}
 use Rattle.words.specs.Word.{word_at, Put, plus}
 use Rattle.laws.proofs.Groups.{groups-words}
-use Rattle.rows.specs.Row.{HeldFits, resumed, ResumedInto}
-use Rattle.rows.proofs.Loops.{Upto, upto_none, turned, ended, carried, carried_first, carried_later, carried_on}
+use Rattle.rows.specs.Row.{HeldFits, resumed}
+use Rattle.rows.proofs.Loops.{Upto, upto_none, turned, carried, carried_first, carried_later, carried_on}
 
 -- the sums once the words of the channels before c are added to them, in pixel n
 pub record Summed (raw : List ℕ) (channels width : ℕ) (le : Bool) (start : List ℕ) (n c : ℕ) (sums : List ℕ) : Type 0 where
@@ -77,10 +77,3 @@ module _ {raw : List ℕ} {channels width : ℕ} {start old : List ℕ} (fits : 
   row_begun le out_le =
       let none : 0 * channels * width ≡ 0 = omega (arith, zero-mul channels, zero-mul width) in
       rw none (upto_none _ _ _ _ _)
-
-  -- the last pixel ends the row
-  pub row_ended : (le : Bool) {out_le : Bool} {n : ℕ} {out : List ℕ} → n ≡ length raw / (channels * width) → Upto (resumed raw channels width le start) width out_le (length raw) old (n * channels * width) out → ResumedInto raw channels width le out_le start old out
-  row_ended le all is = ended (rw all at is) (omega (arith, whole))
-    where
-      whole : length raw / (channels * width) * channels * width ≡ length raw
-      whole = mul_assoc (length raw / (channels * width)) channels width ∙ omega (arith, div-add-mod' (length raw) (channels * width), fits.fits.groups)

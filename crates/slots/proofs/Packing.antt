@@ -6,7 +6,6 @@ use mathlib.Core.List.{List}
 use mathlib.Core.Logic.{◌⊎◌, ⊎_elim}
 use native.Mathlib.Decide.{dec_lt}
 use native.Mathlib.Nat.{zero-add, mul-one, pow-zero, pow-succ', mul_left_comm, suc-add, pow-le-pow_right}
-use native.Mathlib.Numerals.{add-one}
 use native.Mathlib.Omega.{arith}
 use borrow.Author.Tests.{lt-ltb, le-ltb}
 use lib.ListN.{length, get_or}
@@ -28,16 +27,6 @@ bit_past white picture k h = rw (le-ltb k (length picture) h)
 -- the first n columns are the digits of a number, the last the lowest
 pub record Packed (white : Bool) (columns : List ℕ) (n byte : ℕ) : Type 0 where
   pub so_far : byte ≡ value 2 n (λ p. bilevel_bit white (get_or columns (n - 1 - p) 0))
-
-pub packed_more : {white : Bool} {columns : List ℕ} {n byte bit : ℕ} → Packed white columns n byte → bit ≡ bilevel_bit white (get_or columns n 0) → Packed white columns (n + 1) (2 * byte + bit)
-packed_more {white} {columns} {n} is e = record {
-  so_far =
-      let g : ℕ → ℕ = λ k. bilevel_bit white (get_or columns k 0) in
-      let rest : value 2 n (λ p. g (n - 1 - p)) ≡ value 2 n (λ p. g (n + 1 - 1 - suc p)) = value_same 2 n _ _ (λ p h. ap g (omega arith)) in
-      let first : g (n + 1 - 1 - 0) ≡ g n = ap g (omega arith) in
-      let all : value 2 (n + 1) (λ p. g (n + 1 - 1 - p)) ≡ g (n + 1 - 1 - 0) + 2 * value 2 n (λ p. g (n + 1 - 1 - suc p)) = rw add-one in
-      omega (arith, all, first, rest, is.so_far, e);
-}
 
 -- digits of which the lowest are 0
 shifted : (m n : ℕ) (f : ℕ → ℕ) → ((p : ℕ) → p < m → f p ≡ 0) → value 2 (m + n) f ≡ value 2 n (λ p. f (m + p)) * 2 ^ m

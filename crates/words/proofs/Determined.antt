@@ -1,11 +1,10 @@
 -- Each promise of this crate allows one outcome. Assumes nothing.
-use Rattle.std.specs.Prelude.{Ok, Err}
-use mathlib.Core.Path.{◌≡◌, refl, sym, ap, ◌∙◌}
+use mathlib.Core.Path.{◌≡◌, sym, ◌∙◌}
 use mathlib.Core.Bool.{Bool}
 use mathlib.Core.List.{List, [], ◌∷◌}
 use Prim.Native.Nat.{ℕ}
-use Rattle.answer.specs.Outcome.{Outcome, done, refused, outcome, place_outcome, Answer}
-use Rattle.answer.proofs.Promised.{kind, kind-number, once, place_once, answer_once}
+use Rattle.answer.specs.Outcome.{Answer}
+use Rattle.answer.proofs.Promised.{place_once, answer_once}
 use Rattle.answer.specs.declared.ByteAt.{ByteAt}
 use Rattle.words.specs.Word.{backwards}
 use Rattle.words.specs.Promises.{served, Joined, Placed, ReadWord, LoadedWord}

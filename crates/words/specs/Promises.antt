@@ -1,7 +1,7 @@
 -- What this crate's functions promise (rules 2.3 to 2.7): the order of refusals, and the word that is there.
 -- Each answer's definition gives rule 1.1's number and the values of its cases. Assumes nothing.
 use Rattle.std.specs.Prelude.{ℕ, ◌+◌, ◌*◌, ◌≡◌, Bool, false, not, ◌||◌, List, [], ◌∷◌, length, get_or, eqb, ltb}
-use Rattle.answer.specs.Outcome.{Outcome, done, refused, Fault, unless, unsupported, truncated, number, pick, outcome, place_outcome, Answer}
+use Rattle.answer.specs.Outcome.{Fault, unless, unsupported, truncated, pick, outcome, place_outcome, Answer}
 use Rattle.answer.specs.declared.ByteAt.{ByteAt}
 use Rattle.words.specs.Digits.{value}
 use Rattle.words.specs.Word.{word_at}

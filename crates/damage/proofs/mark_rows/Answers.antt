@@ -3,7 +3,7 @@ use native.Mathlib.Nat.{mul-le-mul_right}
 use native.Mathlib.Omega.{arith}
 use Prim.Native.Nat.{◌+◌, ◌*◌, ◌/◌, ◌≤◌, ◌<◌}
 use lib.ListN.{length}
-use Rattle.laws.proofs.Groups.{turn_next, turn_room, turns_all}
+use Rattle.laws.proofs.Groups.{turn_next, turn_room}
 use Rattle.damage.proofs.MarkedRows.{strip-wide, strip-long, marks-room, row_fits, row_turned, count_room, rows_ended, rows_whole}
 use Rattle.damage.proofs.mark_rows.Goals.{In-loop-row}
 use Rattle.damage.proofs.mark_rows.Goals as goal

@@ -1,5 +1,5 @@
 -- `damage::mark_rows` meets its contract: the invariant and its laws are in proofs/MarkedRows.antt. Assumes nothing.
-use Prim.Native.Nat.{◌*◌, ◌/◌}
+use Prim.Native.Nat.{◌*◌}
 use Rattle.damage.proofs.MarkedRows.{MarkedRows}
 use Rattle.damage.proofs.mark_rows.Given as goal
 

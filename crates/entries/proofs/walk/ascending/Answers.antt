@@ -6,7 +6,6 @@ use Rattle.laws.specs.Turns.{every}
 use Rattle.laws.proofs.Turns.{every_more}
 use Rattle.laws.proofs.Says.{one_fails}
 use Rattle.entries.proofs.walk.ascending.Invariants.{below_next}
-use Rattle.entries.proofs.walk.ascending.Goals.{In-loop-i}
 use Rattle.entries.proofs.walk.ascending.Goals as goal
 
 pub loop-i-preserved : goal.loop-i-preserved

@@ -5,7 +5,6 @@ use Prim.Native.Nat.{◌/◌, ◌%◌}
 use native.Mathlib.Nat.{zero-mod, zero-div}
 use Rattle.answer.proofs.Promised.{passed}
 use Rattle.samples.specs.Promises.{strip_faults}
-use Rattle.packets.specs.declared.Plan.{Plan}
 use Rattle.packets.specs.State.{geometry, state_at}
 use Rattle.packets.specs.Promises.{plan, nowhere}
 use Rattle.packets.proofs.Bytewise.{tail_none, sums_none}
