@@ -11,7 +11,7 @@ use Rattle.answer.specs.Table.{table, filled}
 use Rattle.answer.proofs.Promised.{sound-here}
 use Rattle.answer.proofs.Filling.{part, length_part, part_at, part_filled, length-table, length-filled, filled-all, table_same}
 use Rattle.words.specs.Promises.{served}
-use Rattle.laws.proofs.Groups.{group_room, turns_all}
+use Rattle.laws.proofs.Groups.{group_room}
 use Rattle.samples.specs.Sample.{strip, Good}
 use Rattle.samples.specs.declared.Strip.{Strip}
 use Rattle.samples.proofs.Strips.{good_checked, per_row_lem}
@@ -78,10 +78,6 @@ module _ {damage : List ℕ} {g : Strip} {old : List ℕ} (fits : StripMarksFit 
       let marks = own ∙ table_same (length old) _ _ (λ k h. ap mark_byte (sym (marked-alone g false damage k refl))) in
       record { marks = marks; count-is = counted-table (length old) (marked g false damage) count new marks c }
 
--- the rows are all of the strip
-pub rows_whole : {damage : List ℕ} {g : Strip} {old : List ℕ} → StripMarksFit damage g old → length damage / g.row * g.row ≡ length damage
-rows_whole {damage} {g} {old} fits = turns_all g.row (length damage) (good fits).whole
-
 -- the rows marked so far: `at` and n are where the next row and its marks begin
 pub record MarkedRows (damage : List ℕ) (g : Strip) (old : List ℕ) (count at n : ℕ) (out : List ℕ) : Type 0 where
   pub inside : at ≤ length damage
@@ -92,10 +88,9 @@ pub record MarkedRows (damage : List ℕ) (g : Strip) (old : List ℕ) (count at
   pub so_far : out ≡ filled n (λ k. mark_byte (marked g true damage k)) old
   pub count_so_far : count ≡ counted n (marked g true damage)
 
-pub marked-rows-none : (damage : List ℕ) (g : Strip) (old : List ℕ) → MarkedRows damage g old 0 (0 * g.row) (0 * (g.row / g.width)) old
+pub marked-rows-none : (damage : List ℕ) (g : Strip) (old : List ℕ) → MarkedRows damage g old 0 0 0 old
 marked-rows-none damage g old =
-    rw (zero-mul g.row, zero-mul (g.row / g.width))
-    (record { inside = omega arith; rows = zero-mod g.row; place = sym (zero-mul g.width); begins = zero-mod (g.row / g.width); same = refl; so_far = refl; count_so_far = refl })
+    record { inside = omega arith; rows = zero-mod g.row; place = sym (zero-mul g.width); begins = zero-mod (g.row / g.width); same = refl; so_far = refl; count_so_far = refl }
 
 module _ {damage : List ℕ} {g : Strip} {old : List ℕ} {count at n : ℕ} {out : List ℕ} (fits : StripMarksFit damage g old) (is : MarkedRows damage g old count at n out) where
   per_wide : g.row / g.width * g.width ≡ g.row

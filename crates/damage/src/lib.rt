@@ -37,9 +37,11 @@ fn mark_rows(damage: &[u8], strip: Strip, marks: &mut [u8]) -> usize
 {
     let row_marks = strip.row / strip.width;
     let mut count: usize = 0;
-    for row in 0..damage.len() / strip.row {
-        let at = row * strip.row;
-        let n = row * row_marks;
+    // By hand: over a count of rows the compiler asks once for all of them whether a row's marks may be carried onward in vectors, and of rows of
+    // two pixels too they may not; those of many channels took up to twice as long.
+    let mut at: usize = 0;
+    let mut n: usize = 0;
+    while at < damage.len() {
         let end = at + strip.row;
         let last = n + row_marks;
         count += mark_row(
@@ -48,6 +50,8 @@ fn mark_rows(damage: &[u8], strip: Strip, marks: &mut [u8]) -> usize
             strip.width,
             &mut marks[n..last],
         );
+        at = end;
+        n = last;
     }
     count
 }

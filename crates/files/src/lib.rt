@@ -60,7 +60,8 @@ fn put_file(l: RasterLayout, p: Plan, planes: &[u8], out: &mut [u8])
     let at = p.planes;
     let end = p.length;
     front::put_front(f, p, out);
-    out[at..end].copy_from_slice(&planes[0..n]);
+    // past every refusal, so it has none
+    let _ = transport::commit_uninit(&planes[0..n], &mut out[at..end]);
 }
 
 // A file of one page whose strips are the planes, each of so many rows and the last of a plane of what is left.

@@ -6,6 +6,7 @@ ghost use Rattle.rows.specs.Row.{FewFit, ResumedInto};
 use crate::{arms, word};
 
 // A pixel is read before it is written: the compiler cannot tell that the two slices are apart, and makes a vector of a pixel only so.
+#[inline]
 fn pixels<const N: usize>(
     raw: &[u8],
     width: usize,

@@ -10,11 +10,14 @@ ghost use Rattle.transport.specs.Moved.{Committed, CopiedInto, reversed, Reverse
 use crate::reversed::REVERSED;
 use answer::Refusal;
 
+// A loop, and no call of `memmove`, which std's `copy_from_slice` is: the archive asks C for `memcpy` and `memset` alone.
 fn copy(source: &[u8], out: &mut [u8])
     requires { length source.now ≤ length out.old }
     ensures { CopiedInto source.now out.old out.new }
 {
-    out[..source.len()].copy_from_slice(source);
+    for (i, byte) in source.iter().enumerate() {
+        out[i] = *byte;
+    }
 }
 
 // A copy of the source at the front of the output.

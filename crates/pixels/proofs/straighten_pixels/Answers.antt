@@ -5,4 +5,4 @@ use Rattle.pixels.proofs.straighten_pixels.Goals as goal
 
 pub loop-p-preserved : goal.loop-p-preserved
 loop-p-preserved c =
-    pixel_turned c.requires.0 c.loop-p.invariant (omega (arith, c.loop-p-test.true)) _ c.straighten_known.ensures
+    pixel_turned c.requires.0 c.loop-p.invariant (omega (arith, c.loop-p-test.true)) _ c.straighten_pixel.ensures

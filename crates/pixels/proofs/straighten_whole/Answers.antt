@@ -4,7 +4,7 @@ use Rattle.laws.proofs.Tabled.{tabled}
 use Rattle.pixels.specs.Finish.{share_of}
 use Rattle.pixels.proofs.straighten_whole.Goals as goal
 
-pub straighten_pixels-requires : goal.straighten_pixels-requires
+pub straighten_known-requires : goal.straighten_known-requires
 unfolding share_of
-straighten_pixels-requires c =
+straighten_known-requires c =
     (c.requires, tabled refl)
