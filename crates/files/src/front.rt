@@ -9,7 +9,7 @@ use crate::plan::Plan;
 use crate::tables::{Table, put_bits, put_resolutions, put_strips, strip_bytes};
 use layout::Fields;
 
-// The first two bytes, read as a Kind::Short.
+// The first two bytes, read as a SHORT.
 const II: usize = 18761;
 
 // The bits of a sample.

@@ -19,10 +19,12 @@ impl From<u8> for Header {
     ghost from_gives = { λ byte header. header ≡ header_of byte };
 
     fn from(byte: u8) -> Header {
-        match byte {
-            0..=127 => Header::Copies(byte + 1),
-            128 => Header::Rests,
-            _ => Header::Repeats(255 - byte + 2),
+        if byte < 128 {
+            Header::Copies(byte + 1)
+        } else if byte == 128 {
+            Header::Rests
+        } else {
+            Header::Repeats(255 - byte + 2)
         }
     }
 }
