@@ -25,9 +25,10 @@ fn lead(raw: &[u8], channels: usize, width: usize, le: bool, out_le: bool, out: 
     requires { LeadFits raw.now (channels * width) width out.old }
     ensures { LedInto raw.now (channels * width) width le out_le out.old out.new }
 {
+    let mut at: usize = 0;
     for n in 0..channels {
-        let at = n * width;
         word::put(out, at, width, out_le, word::get(raw, at, width, le));
+        at += width;
     }
 }
 
