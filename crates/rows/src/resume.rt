@@ -50,8 +50,10 @@ fn held(out: &[u8], last: usize, form: Form, sums: &mut [u64])
     requires { LastFits out.now last form.channels form.width sums.old }
     ensures { Held out.now last form.channels form.width form.out_le sums.old sums.new }
 {
+    let mut at = last;
     for channel in 0..form.channels {
-        sums[channel] = word::get(out, last + channel * form.width, form.width, form.out_le);
+        sums[channel] = word::get(out, at, form.width, form.out_le);
+        at += form.width;
     }
 }
 
