@@ -21,14 +21,19 @@ fn pixels<const N: usize>(
     let mut sums = [0u64; N];
     sums.copy_from_slice(&start[..N]);
     let pixel = N * width;
+    let mut at: usize = 0;
     for n in 0..raw.len() / pixel {
-        let at = n * pixel;
+        let mut from = at;
         for c in 0..N {
-            sums[c] = word::sum(raw, at + c * width, width, le, sums[c]);
+            sums[c] = word::sum(raw, from, width, le, sums[c]);
+            from += width;
         }
+        let mut to = at;
         for c in 0..N {
-            word::put(out, at + c * width, width, out_le, sums[c]);
+            word::put(out, to, width, out_le, sums[c]);
+            to += width;
         }
+        at += pixel;
     }
 }
 
