@@ -97,10 +97,11 @@ fn straighten_pixels(
     ensures { PixelsStraightened s.old channels multiplied white s.new }
 {
     let last = channels - 1;
+    let mut at: usize = 0;
     for p in 0..s.len() / channels {
-        let at = p * channels;
         let share = shares[s[at + last] as usize];
         straighten_pixel(s, at, last, multiplied, white, share);
+        at += channels;
     }
 }
 

@@ -16,14 +16,16 @@ fn pixel<const CHANNELS: usize, const BYTES: usize>(
     requires { PixelFits raw.now plane_len place CHANNELS BYTES at out.old × OneOrTwo BYTES }
     ensures { PixelGathered raw.now plane_len place CHANNELS BYTES le at out.old out.new }
 {
+    let mut from = place;
+    let mut to = at;
     for c in 0..CHANNELS {
-        let from = place + c * plane_len;
         let mut stored = [0; BYTES];
         stored.copy_from_slice(&raw[from..from + BYTES]);
         let word = pixels::word(stored, le);
-        let to = at + c * BYTES;
         let end = to + BYTES;
         out[to..end].copy_from_slice(&word);
+        from += plane_len;
+        to += BYTES;
     }
 }
 
@@ -40,8 +42,12 @@ fn pixels_apart<const CHANNELS: usize, const BYTES: usize>(
     ensures { PlanesInto raw.now plane_len from CHANNELS BYTES le out.old out.new }
 {
     let stride = CHANNELS * BYTES;
+    let mut place = from;
+    let mut at: usize = 0;
     for p in 0..out.len() / stride {
-        pixel::<CHANNELS, BYTES>(raw, plane_len, from + p * BYTES, le, p * stride, out);
+        pixel::<CHANNELS, BYTES>(raw, plane_len, place, le, at, out);
+        place += BYTES;
+        at += stride;
     }
 }
 

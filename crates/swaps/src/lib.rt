@@ -43,8 +43,10 @@ fn swap_groups(raw: &[u8], width: usize, out: &mut [u8])
     requires { SwapFits raw.now width out.old }
     ensures { SwappedInto raw.now width out.old out.new }
 {
+    let mut at: usize = 0;
     for n in 0..raw.len() / width {
-        swap_group(raw, n * width, width, out);
+        swap_group(raw, at, width, out);
+        at += width;
     }
 }
 

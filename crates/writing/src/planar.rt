@@ -17,14 +17,16 @@ fn channel_of<const BYTES: usize>(
     requires { ChannelFits picture.now first stride BYTES out.old × OneOrTwo BYTES }
     ensures { ChannelInto picture.now first stride BYTES le out.old out.new }
 {
+    let mut from = first;
+    let mut at: usize = 0;
     for p in 0..out.len() / BYTES {
-        let from = first + p * stride;
         let mut shown = [0; BYTES];
         shown.copy_from_slice(&picture[from..from + BYTES]);
         let word = pixels::word(shown, le);
-        let at = p * BYTES;
         let end = at + BYTES;
         out[at..end].copy_from_slice(&word);
+        from += stride;
+        at += BYTES;
     }
 }
 

@@ -1,8 +1,12 @@
 -- `pixels::straighten_pixels` meets its contract: the invariant and its laws are in proofs/Pixels.antt. Assumes nothing.
 use native.Mathlib.Omega.{arith}
+use Rattle.laws.proofs.Groups.{turn_next}
 use Rattle.pixels.proofs.Pixels.{pixel_turned}
 use Rattle.pixels.proofs.straighten_pixels.Goals as goal
 
 pub loop-p-preserved : goal.loop-p-preserved
 loop-p-preserved c =
-    pixel_turned c.requires.0 c.loop-p.invariant (omega (arith, c.loop-p-test.true)) _ c.straighten_pixel.ensures
+    let is = c.loop-p.invariant in (
+      omega (arith, is.0, turn_next c.loop-p.p c.args.channels),
+      pixel_turned c.requires.0 is.1 (omega (arith, c.loop-p-test.true)) _ (rw is.0 at c.straighten_pixel.ensures),
+    )
