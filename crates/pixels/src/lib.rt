@@ -125,7 +125,8 @@ fn straighten_known(
     }
 }
 
-// The same by the table, which one computed test shows to be right.
+// The same by the table, which one computed test shows to be right. Taken in wherever it is called: left a call, it asked for both flags at every
+// colour, and rows beside alpha took 3 to 5 times as long.
 #[inline(always)]
 fn straighten_whole(s: &mut [u8], channels: usize, multiplied: bool, white: bool)
     requires { WholePixels s.old channels }
@@ -150,7 +151,7 @@ pub fn straighten_row(
         return Err(Refusal::Invalid);
     }
     if multiplied {
-        // two calls, of which the compiler takes neither in: the callers' loops need the registers
+        // two calls, each of which is taken in with its flags known
         if white {
             straighten_whole(s, channels, true, true);
         } else {
