@@ -1,8 +1,8 @@
 -- The loop that swaps: its invariant, how a turn keeps it, and what it comes to at the end. Assumes nothing.
 use mathlib.Core.Path.{◌≡◌, refl, sym, ap, ◌∙◌}
 use mathlib.Core.List.{List}
-use Prim.Native.Nat.{ℕ, ◌+◌, ◌-◌, ◌%◌, ◌≤◌, ◌<◌}
-use native.Mathlib.Nat.{add-mod_right, zero-mod}
+use Prim.Native.Nat.{ℕ, ◌+◌, ◌-◌, ◌*◌, ◌%◌, ◌≤◌, ◌<◌}
+use native.Mathlib.Nat.{add-mod_right, zero-mul, zero-mod}
 use native.Mathlib.Omega.{arith}
 use lib.ListN.{length, get_or}
 use Rattle.answer.specs.Table.{filled}
@@ -17,8 +17,8 @@ pub record Swapping (raw : List ℕ) (width : ℕ) (old : List ℕ) (at : ℕ) (
   pub same : length out ≡ length old
   pub so_far : out ≡ filled at (swapped_at raw width) old
 
-pub begun : (raw : List ℕ) (width : ℕ) (old : List ℕ) → Swapping raw width old 0 old
-begun raw width old = record { inside = omega arith; groups = zero-mod width; same = refl; so_far = refl }
+pub begun : (raw : List ℕ) (width : ℕ) (old : List ℕ) → Swapping raw width old (0 * width) old
+begun raw width old = rw (zero-mul width) (record { inside = omega arith; groups = zero-mod width; same = refl; so_far = refl })
 
 module _ {raw : List ℕ} {width : ℕ} {old : List ℕ} {at : ℕ} {out : List ℕ} (fits : SwapFits raw width old) (is : Swapping raw width old at out) where
   pub room : at < length raw → at + width ≤ length raw

@@ -13,7 +13,8 @@ there : (c : In-loop-n) → c.loop-n.at + c.args.width ≤ length c.args.raw.now
 there c = omega (arith, turn_room c.loop-n.n c.args.width _ c.loop-n-test.true, c.loop-n.invariant.0)
 
 pub loop-n-init : goal.loop-n-init
-loop-n-init c = (sym (zero-mul c.args.width), begun _ _ _)
+loop-n-init c =
+    (sym (zero-mul c.args.width), rw (zero-mul c.args.width) at (begun c.args.raw.now c.args.width c.args.out.now))
 
 pub swap_group-requires : goal.swap_group-requires
 swap_group-requires c =
