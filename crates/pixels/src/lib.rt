@@ -135,7 +135,9 @@ fn straighten_whole(s: &mut [u8], channels: usize, multiplied: bool, white: bool
     straighten_known(s, channels, multiplied, white, &SHARES);
 }
 
-// Colours beside alpha, in place: divided by it if they were multiplied, inverted where white is 0. Each pixel's last byte is its alpha.
+// Colours beside alpha, in place: divided by it if they were multiplied, inverted where white is 0. Each pixel's last byte is its alpha. It stays a
+// call: its callers' other loops need the registers.
+#[inline(never)]
 pub fn straighten_row(
     s: &mut [u8],
     channels: usize,
