@@ -6,6 +6,8 @@ ghost use Rattle.rows.specs.Row.{meant_at, one_row, Led, TransformedInto};
 use crate::form::Form;
 use crate::{arms, differences, trails};
 
+// A call, so that its loops have the registers: taken in, they ran at 0.56 to 0.9 where words have four bytes.
+#[inline(never)]
 pub(crate) fn steps(raw: &[u8], form: Form, forward: bool, out: &mut [u8])
     requires { (served form.width ≡ true) × Led (meant_at raw.now form.channels form.width form.le form.out_le forward) raw.now form.channels form.width out.old }
     ensures { TransformedInto raw.now (one_row raw.now form.channels form.width) true form.le form.out_le forward out.old out.new }
