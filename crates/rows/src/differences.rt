@@ -5,6 +5,7 @@ ghost use Rattle.rows.specs.Row.{one_row, meant_at, Led, TransformedInto};
 
 use crate::word;
 
+// Marked as `held::pixels` is, so that each arm has its own loop.
 #[inline]
 pub(crate) fn differences(
     raw: &[u8],
