@@ -56,12 +56,13 @@ fn predicted_rows(raw: &[u8], row_bytes: usize, form: Form, forward: bool, out: 
     requires { StripServed raw.now (strip row_bytes form.channels form.width) out.old }
     ensures { TransformedInto raw.now (strip row_bytes form.channels form.width) true form.le form.out_le forward out.old out.new }
 {
+    let mut at: usize = 0;
     for n in 0..raw.len() / row_bytes {
-        let at = n * row_bytes;
         let end = at + row_bytes;
         let row = &raw[at..end];
         let to = &mut out[at..end];
         transform_words(row, form, true, forward, to);
+        at = end;
     }
 }
 
