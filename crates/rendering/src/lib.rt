@@ -44,10 +44,11 @@ fn render_rows(l: RasterLayout, file: &[u8], raw: &[u8], out: &mut [u8])
     ensures { RowsRendered l file.now raw.now out.old out.new }
 {
     let row_bytes = l.fields.w * (l.fields.ch * l.fields.bytes);
+    let mut at: usize = 0;
     for y in 0..l.fields.h {
-        let at = y * row_bytes;
         let end = at + row_bytes;
         render_row(l, file, raw, y, &mut out[at..end]);
+        at = end;
     }
 }
 

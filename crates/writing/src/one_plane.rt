@@ -46,11 +46,13 @@ pub(crate) fn write_rows(l: RasterLayout, picture: &[u8], planes: &mut [u8])
 {
     let read = l.fields.w * (l.fields.ch * l.fields.bytes);
     let wrote = l.encoded_width * l.plane_channels;
+    let mut from: usize = 0;
+    let mut at: usize = 0;
     for y in 0..l.fields.h {
-        let from = y * read;
         let end = from + read;
-        let at = y * wrote;
         let stop = at + wrote;
         write_row(l, &picture[from..end], &mut planes[at..stop]);
+        from = end;
+        at = stop;
     }
 }

@@ -72,9 +72,10 @@ pub(crate) fn write_apart(l: RasterLayout, picture: &[u8], planes: &mut [u8])
     requires { Apart l picture.now planes.old }
     ensures { WrittenInto l picture.now planes.old planes.new }
 {
+    let mut start: usize = 0;
     for c in 0..l.fields.ch {
-        let start = c * l.plane_len;
         let end = start + l.plane_len;
         write_plane(l, picture, c, &mut planes[start..end]);
+        start = end;
     }
 }
